@@ -1,3 +1,4 @@
 pub mod Spelled
 pub mod Whole
 pub mod Checked
+pub mod Onto

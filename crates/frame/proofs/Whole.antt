@@ -84,3 +84,6 @@ framed m law p out one two n a b c en ea eb ec fits P Q =
     let head : a ∷ b ∷ c ∷ p .seq ∷ bytes ≡ written m p = rw (ea, eb, ec) in
     let size : 4 + length bytes ≡ length (written m p) = omega arith in
     put-made (written m p) out (omega (arith, sized)) (n + 1) _ (omega (arith, sized)) (all ∙ ap (λ l. l ++ drop (4 + length bytes) out) head ∙ ap (λ k. written m p ++ drop k out) size)
+
+pub judged-whole : {R : Type 0} (m : Model R) (xs : List ℕ) → Whole xs → judged m xs ≡ judgedWhole m xs
+judged-whole m xs w = ap (λ f. then-by f (judgedWhole m)) (front-whole xs w)
