@@ -19,7 +19,7 @@ bytes r =
     r .forecast ∷
     (r .strength * 16 + r .battery) ∷ []
 
--- a temperature of no size has no sign
+-- the temperature 80 00 would be a second zero
 abbrev pub verdict : ℕ → List ℕ → Verdict
 verdict s xs =
     unless (inRange 1 s 2) UnknownSubtype
