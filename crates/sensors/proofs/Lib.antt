@@ -1,2 +1,3 @@
 pub mod Same
+pub mod Signed
 pub mod Laws

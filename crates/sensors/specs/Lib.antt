@@ -1,2 +1,4 @@
 pub mod Ranges
+pub mod Climate
+pub mod Rain
 pub mod Meter
