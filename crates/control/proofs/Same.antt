@@ -1,0 +1,13 @@
+-- Two records with the same fields are one, since the fact in the ghost field has one proof.
+use mathlib.Core.Bool.{true, Bool-set}
+use mathlib.Core.HLevel.{isProp→PathP}
+use mathlib.Core.Path.{_≡_}
+use Rattle.control.specs.Ranges.{transmitterOk}
+use Rattle.control.specs.declared.records.TransmitterMessage.{TransmitterMessage}
+
+pub transmitter-same : (r s : TransmitterMessage) → r .subtype ≡ s .subtype → r .message ≡ s .message → r ≡ s
+transmitter-same r s p0 p1 = λ i. record {
+  subtype = p0 i;
+  message = p1 i;
+  ok = isProp→PathP (λ j. transmitterOk (p0 j) (p1 j) ≡ true) (λ j. Bool-set (transmitterOk (p0 j) (p1 j)) true) (r .ok) (s .ok) i;
+}
