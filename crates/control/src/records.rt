@@ -1,11 +1,19 @@
 // The interface's records, lawful by their type: each ghost field is the range test of `Rattle.control.specs.Ranges`.
 ghost use mathlib.Core.Bool.{true};
 ghost use mathlib.Core.Path.{_≡_};
-ghost use Rattle.control.specs.Ranges.{transmitterOk};
+ghost use Rattle.control.specs.Ranges.{transmitterOk, interfaceOk};
 
 #[derive(Clone, Copy, PartialEq, Eq, Debug)]
 pub struct TransmitterMessage {
     pub subtype: u8,
     pub message: u8,
     ghost ok: { transmitterOk subtype message ≡ true },
+}
+
+#[derive(Clone, Copy, PartialEq, Eq, Debug)]
+pub struct InterfaceMessage {
+    pub subtype: u8,
+    pub command: u8,
+    pub messages: [u8; 9],
+    ghost ok: { interfaceOk subtype command messages ≡ true },
 }
