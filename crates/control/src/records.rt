@@ -1,7 +1,7 @@
 // The interface's records, lawful by their type: each ghost field is the range test of `Rattle.control.specs.Ranges`.
 ghost use mathlib.Core.Bool.{true};
 ghost use mathlib.Core.Path.{_≡_};
-ghost use Rattle.control.specs.Ranges.{transmitterOk, interfaceOk};
+ghost use Rattle.control.specs.Ranges.{transmitterOk, interfaceOk, modeOk};
 
 #[derive(Clone, Copy, PartialEq, Eq, Debug)]
 pub struct TransmitterMessage {
@@ -16,4 +16,14 @@ pub struct InterfaceMessage {
     pub command: u8,
     pub messages: [u8; 9],
     ghost ok: { interfaceOk subtype command messages ≡ true },
+}
+
+// Its subtype is always 0.
+#[derive(Clone, Copy, PartialEq, Eq, Debug)]
+pub struct SetMode {
+    pub frequency: u8,
+    pub msg3: u8,
+    pub msg4: u8,
+    pub msg5: u8,
+    ghost ok: { modeOk frequency msg3 msg4 msg5 ≡ true },
 }
