@@ -1,0 +1,16 @@
+-- Two records with the same fields are one, since the fact in the ghost field has one proof.
+use mathlib.Core.Bool.{true, Bool-set}
+use mathlib.Core.HLevel.{isProp→PathP}
+use mathlib.Core.Path.{_≡_}
+use Rattle.actors.specs.Ranges.{securityOk}
+use Rattle.actors.specs.declared.records.Security.{Security}
+
+pub security-same : (r s : Security) → r .subtype ≡ s .subtype → r .id ≡ s .id → r .status ≡ s .status → r .strength ≡ s .strength → r .battery ≡ s .battery → r ≡ s
+security-same r s p0 p1 p2 p3 p4 = λ i. record {
+  subtype = p0 i;
+  id = p1 i;
+  status = p2 i;
+  strength = p3 i;
+  battery = p4 i;
+  ok = isProp→PathP (λ j. securityOk (p0 j) (p1 j) (p2 j) (p3 j) (p4 j) ≡ true) (λ j. Bool-set (securityOk (p0 j) (p1 j) (p2 j) (p3 j) (p4 j)) true) (r .ok) (s .ok) i;
+}
