@@ -64,6 +64,15 @@ pub impl Kind for SecurityKind as SecurityIsKind {
 
     fn write(record: &Security, out: &mut [u8]) -> Result<usize, Refusal> {
         let [_, id0, id1, id2] = record.id.to_be_bytes();
-        put(&[id0, id1, id2, record.status, record.strength * 16 + record.battery], out)
+        put(
+            &[
+                id0,
+                id1,
+                id2,
+                record.status,
+                record.strength * 16 + record.battery,
+            ],
+            out,
+        )
     }
 }

@@ -41,7 +41,7 @@ pub impl Kind for ModeKind as ModeIsKind {
         if *z2 != 0 {
             return Err(Fault::OutOfRange(6));
         }
-        // bit 6
+        // bit 6 is to be 0
         if *msg3 / 64 % 2 != 0 {
             return Err(Fault::OutOfRange(7));
         }

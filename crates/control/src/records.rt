@@ -3,6 +3,7 @@ ghost use mathlib.Core.Bool.{true};
 ghost use mathlib.Core.Path.{_≡_};
 ghost use Rattle.control.specs.Ranges.{transmitterOk, interfaceOk, modeOk};
 
+// Type 0x02, a message of the transmitter.
 #[derive(Clone, Copy, PartialEq, Eq, Debug)]
 pub struct TransmitterMessage {
     pub subtype: u8,
@@ -10,6 +11,7 @@ pub struct TransmitterMessage {
     ghost ok: { transmitterOk subtype message ≡ true },
 }
 
+// Type 0x01, a message of the interface: the command that it answers, and the nine bytes behind it.
 #[derive(Clone, Copy, PartialEq, Eq, Debug)]
 pub struct InterfaceMessage {
     pub subtype: u8,
@@ -18,7 +20,7 @@ pub struct InterfaceMessage {
     ghost ok: { interfaceOk subtype command messages ≡ true },
 }
 
-// Its subtype is always 0.
+// Type 0x00, the mode to set. It has no field for the subtype, which is always 0.
 #[derive(Clone, Copy, PartialEq, Eq, Debug)]
 pub struct SetMode {
     pub frequency: u8,
