@@ -80,20 +80,13 @@ pub impl Kind for ModeKind as ModeIsKind {
     }
 
     fn write(record: &SetMode, out: &mut [u8]) -> Result<usize, Refusal> {
-        put(
-            &[
-                3,
-                record.frequency,
-                0,
-                record.msg3,
-                record.msg4,
-                record.msg5,
-                0,
-                0,
-                0,
-                0,
-            ],
-            out,
-        )
+        let SetMode {
+            frequency,
+            msg3,
+            msg4,
+            msg5,
+            ..
+        } = *record;
+        put(&[3, frequency, 0, msg3, msg4, msg5, 0, 0, 0, 0], out)
     }
 }
