@@ -1,0 +1,15 @@
+use mathlib.Core.Path.{_≡_, subst, sym}
+use mathlib.Core.List.{_∷_}
+use native.Mathlib.Omega.{arith}
+use lib.ListN.{length}
+use Rattle.std.proofs.shelf.Ways.{tells}
+use Rattle.frame.proofs.Spelled.{spelled}
+use Rattle.refusal.specs.Output.{Put}
+use Rattle.control.proofs.interface.InterfaceIsKind.write.Needs as need
+
+pub returns : need.returns
+returns c =
+    let r = c .args .«record» .now in
+    let ok = r .ok in
+    let nine : length (r .messages) ≡ 9 = grind (arith, tells) in
+    subst (λ ys. Put (r .command ∷ ys) (c .args .out .now) (c .put .result) (c .put .last .out)) (sym (spelled 9 0 (r .messages) nine)) (c .put .ensures)

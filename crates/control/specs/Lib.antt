@@ -1,0 +1,4 @@
+pub mod Ranges
+pub mod Transmitter
+pub mod Interface
+pub mod Mode
