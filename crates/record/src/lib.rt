@@ -2,3 +2,4 @@
 pub mod judging;
 pub mod laws;
 pub mod records;
+pub mod writing;
