@@ -12,7 +12,8 @@ use Rattle.std.proofs.shelf.Ways.{tells}
 use Rattle.std.specs.declared.result.Result.{Result}
 use Rattle.std.specs.declared.result.Result.the-variants.{Ok, Err}
 use Rattle.frame.specs.Model.{Model, Law}
-use Rattle.frame.specs.Frames.{judgedWhole, written, packet}
+use Rattle.frame.specs.Frames.{Whole, judged, judgedWhole, written, packet}
+use Rattle.frame.proofs.Whole.{judged-whole}
 use Rattle.frame.specs.declared.faults.Fault.{Fault}
 use Rattle.frame.specs.declared.faults.Fault.the-variants.{UnknownType}
 use Rattle.control.specs.Interface.{interface}
@@ -196,3 +197,7 @@ typed xs h =
                 ]
           ]
     ]
+
+-- what a kind says of a whole frame of its type is the verdict
+pub arm : (k : Sort) (xs : List ℕ) → Whole xs → 4 ≤ getD xs 0 0 → getD xs 1 0 ≡ model k .number → (v : Result (List ℕ) Fault) → v ≡ judged (model k) xs → v ≡ verdictWhole xs
+arm k xs w h e v j = j ∙ judged-whole (model k) xs w ∙ sym (verdict-is k xs h e)

@@ -1,7 +1,7 @@
 // The verdict on a whole frame of any kind.
 ghost use mathlib.Core.Path.{_≡_};
 ghost use Rattle.std.specs.declared.result.Result.the-variants.{Ok};
-ghost use Rattle.frame.specs.Frames.{Whole, frontOf};
+ghost use Rattle.frame.specs.Frames.{Whole, frontOf, packet};
 ghost use Rattle.frame.specs.declared.packet.Packet.{Packet};
 ghost use Rattle.record.specs.declared.records.Record.{Record};
 ghost use Rattle.record.specs.Frames.{frameOf, verdictOf, verdictWhole, told};
@@ -26,6 +26,12 @@ use sensors::meter::MeterKind;
 use sensors::rain::RainIsKind;
 use sensors::rain::RainKind;
 
+fn found(seq: u8, record: Record) -> Result<Packet<Record>, Fault>
+    ensures { λ r. ⌜ r ≡ Ok (packet seq «record») ⌝ }
+{
+    Ok(Packet { seq, record })
+}
+
 fn judge_whole(frame: &[u8]) -> Result<Packet<Record>, Fault>
     requires { ⌜ Whole (now frame) ⌝ }
     ensures { λ r. ⌜ told r ≡ verdictWhole (now (frame .entry)) ⌝ }
@@ -37,55 +43,34 @@ fn judge_whole(frame: &[u8]) -> Result<Packet<Record>, Fault>
         return Err(Fault::NoPayload);
     }
     match *kind {
-        InterfaceKind::TYPE => {
-            let p = read_frame::<InterfaceKind>(frame)?;
-            Ok(Packet {
-                seq: p.seq,
-                record: Record::Interface(p.record),
-            })
-        }
-        TransmitterKind::TYPE => {
-            let p = read_frame::<TransmitterKind>(frame)?;
-            Ok(Packet {
-                seq: p.seq,
-                record: Record::Transmitter(p.record),
-            })
-        }
-        BlindsKind::TYPE => {
-            let p = read_frame::<BlindsKind>(frame)?;
-            Ok(Packet {
-                seq: p.seq,
-                record: Record::Blinds(p.record),
-            })
-        }
-        SecurityKind::TYPE => {
-            let p = read_frame::<SecurityKind>(frame)?;
-            Ok(Packet {
-                seq: p.seq,
-                record: Record::Security(p.record),
-            })
-        }
-        ClimateKind::TYPE => {
-            let p = read_frame::<ClimateKind>(frame)?;
-            Ok(Packet {
-                seq: p.seq,
-                record: Record::Climate(p.record),
-            })
-        }
-        RainKind::TYPE => {
-            let p = read_frame::<RainKind>(frame)?;
-            Ok(Packet {
-                seq: p.seq,
-                record: Record::Rain(p.record),
-            })
-        }
-        MeterKind::TYPE => {
-            let p = read_frame::<MeterKind>(frame)?;
-            Ok(Packet {
-                seq: p.seq,
-                record: Record::Meter(p.record),
-            })
-        }
+        InterfaceKind::TYPE => match read_frame::<InterfaceKind>(frame) {
+            Ok(p) => found(p.seq, Record::Interface(p.record)),
+            Err(fault) => Err(fault),
+        },
+        TransmitterKind::TYPE => match read_frame::<TransmitterKind>(frame) {
+            Ok(p) => found(p.seq, Record::Transmitter(p.record)),
+            Err(fault) => Err(fault),
+        },
+        BlindsKind::TYPE => match read_frame::<BlindsKind>(frame) {
+            Ok(p) => found(p.seq, Record::Blinds(p.record)),
+            Err(fault) => Err(fault),
+        },
+        SecurityKind::TYPE => match read_frame::<SecurityKind>(frame) {
+            Ok(p) => found(p.seq, Record::Security(p.record)),
+            Err(fault) => Err(fault),
+        },
+        ClimateKind::TYPE => match read_frame::<ClimateKind>(frame) {
+            Ok(p) => found(p.seq, Record::Climate(p.record)),
+            Err(fault) => Err(fault),
+        },
+        RainKind::TYPE => match read_frame::<RainKind>(frame) {
+            Ok(p) => found(p.seq, Record::Rain(p.record)),
+            Err(fault) => Err(fault),
+        },
+        MeterKind::TYPE => match read_frame::<MeterKind>(frame) {
+            Ok(p) => found(p.seq, Record::Meter(p.record)),
+            Err(fault) => Err(fault),
+        },
         _ => Err(Fault::UnknownType),
     }
 }
