@@ -66,9 +66,9 @@ impl TapeReader {
     }
 
     // How many bytes the frame begun has.
-    pub fn begun(&self) -> usize
+    pub fn begun(&self) -> u8
         ensures { λ r. ⌜ r ≡ model (now (self .entry)) .held ⌝ }
     {
-        self.held
+        self.held as u8
     }
 }

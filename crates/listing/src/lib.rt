@@ -1,0 +1,3 @@
+// The listing of a stream of signal numbers, as text (docs/LISTER.md).
+pub mod line;
+mod text;
