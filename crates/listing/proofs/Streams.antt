@@ -1,0 +1,186 @@
+-- Streams that grow by a byte, and what a listing of them becomes.
+use mathlib.Core.Path.{_≡_, refl, sym, ap, subst, _∙_}
+use mathlib.Core.Bool.{Bool, true, false, cond}
+use mathlib.Core.List.{List, [], _∷_, _++_, append-nil, append-assoc, append-cancel-left}
+use Prim.Native.Nat.{ℕ, zero, suc, _+_, _-_, _*_, _≤_, _<_}
+use native.Mathlib.Decide.{decLt}
+use native.Mathlib.Omega.{arith}
+use borrow.Author.Count.{below-more}
+use borrow.Author.Tests.{eq-eqb, ne-eqb, lt-ltb, le-ltb}
+use borrow.Rule.Slice.PartMut.{putMid}
+use lib.Dec.{ltb}
+use lib.ListN.{length, getD, take, drop, length-append, length-drop}
+use lib.Seq.{take-all, length-take-le, take-append-le, drop-drop, drop-length}
+use Rattle.std.proofs.shelf.Lists.{length-push, take-more, take-at, drop-at}
+use Rattle.std.specs.declared.option.Option.{Option}
+use Rattle.std.specs.declared.option.Option.the-variants.{Some, None}
+use Rattle.tape.specs.declared.signals.Signal.{Signal}
+use Rattle.tape.specs.declared.signals.Entry.{Entry}
+use Rattle.tape.specs.Follow.{Follows, limit, full, heard, model}
+use Rattle.tape.specs.Numbers.{signalOf}
+use Rattle.tape.specs.Reading.{Reads}
+use Rattle.tape.proofs.Unique.{reads-one}
+use Rattle.listing.proofs.Texts.{length-kept}
+use Rattle.listing.specs.declared.listing.Listing.{Listing}
+use Rattle.listing.specs.declared.listing.Fed.{Fed}
+use Rattle.listing.specs.Lines.{lines, lineOf}
+use Rattle.listing.specs.Listing.{signals, odd, tapeOf, overOf, Listens, FedOn, WentOn, Stops}
+use Rattle.listing.specs.Steps.{Stepped, Took}
+
+-- a byte that begins a signal number
+first-signals : (input : List ℕ) (b : ℕ) → odd input ≡ None → signals (input ++ b ∷ []) ≡ signals input
+first-signals [] b e = refl
+first-signals (h ∷ []) b e = let z : _≡_ {A = ℕ} 0 1 = cc in absurd (omega arith)
+first-signals (h ∷ l ∷ bs) b e = ap (λ ss. signalOf (h * 256 + l) ∷ ss) (first-signals bs b e)
+
+first-odd : (input : List ℕ) (b : ℕ) → odd input ≡ None → odd (input ++ b ∷ []) ≡ Some b
+first-odd [] b e = refl
+first-odd (h ∷ []) b e = let z : _≡_ {A = ℕ} 0 1 = cc in absurd (omega arith)
+first-odd (h ∷ l ∷ bs) b e = first-odd bs b e
+
+-- a byte that ends one
+second-signals : (input : List ℕ) (h b : ℕ) → odd input ≡ Some h → signals (input ++ b ∷ []) ≡ signals input ++ signalOf (h * 256 + b) ∷ []
+second-signals [] h b e = let z : _≡_ {A = ℕ} 0 1 = cc in absurd (omega arith)
+second-signals (x ∷ []) h b e = let k : x ≡ h = cc in ap (λ n. signalOf (n * 256 + b) ∷ []) k
+second-signals (x ∷ l ∷ bs) h b e = ap (λ ss. signalOf (x * 256 + l) ∷ ss) (second-signals bs h b e)
+
+second-odd : (input : List ℕ) (h b : ℕ) → odd input ≡ Some h → odd (input ++ b ∷ []) ≡ None
+second-odd [] h b e = let z : _≡_ {A = ℕ} 0 1 = cc in absurd (omega arith)
+second-odd (x ∷ []) h b e = refl
+second-odd (x ∷ l ∷ bs) h b e = second-odd bs h b e
+
+-- the tape takes one more signal, or is full
+tape-more : (ss : List Signal) (s : Signal) → take limit (ss ++ s ∷ []) ≡ heard (take limit ss) s
+tape-more ss s =
+    elim (decLt (length ss) limit) [
+      | yes h ↦
+          let all = take-all limit ss (omega arith) in
+          let free : full (take limit ss) ≡ false = ne-eqb (length (take limit ss)) limit (λ e. let l = ap length all in absurd (omega (arith, l, e))) in
+          take-all limit (ss ++ s ∷ []) (omega (arith, length-push ss s))
+          ∙ ap (λ l. l ++ s ∷ []) (sym all)
+          ∙ ap (λ v. cond v (take limit ss) (take limit ss ++ s ∷ [])) (sym free)
+      | no h ↦
+          let shut : full (take limit ss) ≡ true = eq-eqb (length (take limit ss)) limit (length-take-le limit ss (omega arith)) in
+          take-append-le limit ss (s ∷ []) (omega arith)
+          ∙ ap (λ v. cond v (take limit ss) (take limit ss ++ s ∷ [])) (sym shut)
+    ]
+
+over-more : (ss : List Signal) (s : Signal) → ltb limit (length (ss ++ s ∷ [])) ≡ cond (full (take limit ss)) true (ltb limit (length ss))
+over-more ss s =
+    elim (decLt (length ss) limit) [
+      | yes h ↦
+          let all = take-all limit ss (omega arith) in
+          let free : full (take limit ss) ≡ false = ne-eqb (length (take limit ss)) limit (λ e. let l = ap length all in absurd (omega (arith, l, e))) in
+          le-ltb limit (length (ss ++ s ∷ [])) (omega (arith, length-push ss s))
+          ∙ sym (le-ltb limit (length ss) (omega arith))
+          ∙ ap (λ v. cond v true (ltb limit (length ss))) (sym free)
+      | no h ↦
+          let shut : full (take limit ss) ≡ true = eq-eqb (length (take limit ss)) limit (length-take-le limit ss (omega arith)) in
+          lt-ltb limit (length (ss ++ s ∷ [])) (omega (arith, length-push ss s))
+          ∙ ap (λ v. cond v true (ltb limit (length ss))) (sym shut)
+    ]
+
+-- a listing that follows a tape, by another name of it
+renamed : {t u : List Signal} {es fs : List Entry} (x : Listing) → t ≡ u → es ≡ fs → Follows t es (model (x .reader)) → Follows u fs (model (x .reader))
+renamed {t} {u} {es} {fs} x e f F = subst (λ l. Follows u l (model (x .reader))) f (subst (λ l. Follows l es (model (x .reader))) e F)
+
+pub took-first : (input : List ℕ) (es : List Entry) (b : ℕ) (out : List ℕ) (x y : Listing) → Listens input es x → x .high ≡ None → y .reader ≡ x .reader → y .high ≡ Some b → y .over ≡ x .over → Took input es b out 0 out y
+took-first input es b out x y L none er eh eo =
+    let free = sym (L .waits) ∙ none in
+    let same = first-signals input b free in
+    record {
+      more = [];
+      listens = record {
+        follows = subst (λ r. Follows (tapeOf (input ++ b ∷ [])) (es ++ []) (model r)) (sym er) (renamed x (ap (take limit) (sym same)) (sym (append-nil es)) (L .follows));
+        waits = eh ∙ sym (first-odd input b free);
+        over = eo ∙ L .over ∙ ap (λ ss. ltb limit (length ss)) (sym same);
+      };
+      counts = refl;
+      holds = refl;
+    }
+
+pub took-second : (input : List ℕ) (es : List Entry) (h b : ℕ) (s : Signal) (out : List ℕ) (n : ℕ) (after : List ℕ) (x y z : Listing) → Listens input es x → x .high ≡ Some h → s ≡ signalOf (h * 256 + b) → y .reader ≡ x .reader → y .high ≡ None → y .over ≡ x .over → ((t : List Signal) (fs : List Entry) → Follows t fs (model (y .reader)) → Stepped t fs s out n after y z) → Took input es b out n after z
+took-second input es h b s out n after x y z L some es-is er eh eo step =
+    let waits = sym (L .waits) ∙ some in
+    let S = step (tapeOf input) es (subst (λ r. Follows (tapeOf input) es (model r)) (sym er) (L .follows)) in
+    let sig = second-signals input h b waits ∙ ap (λ v. signals input ++ v ∷ []) (sym es-is) in
+    record {
+      more = S .more;
+      listens = record {
+        follows = renamed z (sym (tape-more (signals input) s) ∙ ap (take limit) (sym sig)) refl (S .follows);
+        waits = S .waits ∙ eh ∙ sym (second-odd input h b waits);
+        over = S .over ∙ ap (λ v. cond (full (tapeOf input)) true v) (eo ∙ L .over) ∙ sym (over-more (signals input) s) ∙ ap (λ ss. ltb limit (length ss)) (sym sig);
+      };
+      counts = S .counts;
+      holds = S .holds;
+    }
+
+lines-append : (es fs : List Entry) → lines (es ++ fs) ≡ lines es ++ lines fs
+lines-append [] fs = refl
+lines-append (e ∷ es) fs = ap (λ l. lineOf e ++ l) (lines-append es fs) ∙ sym (append-assoc (lineOf e) (lines es) (lines fs))
+
+-- more text behind the text in a buffer
+behind : (out now part ls ms : List ℕ) (w n : ℕ) → w ≡ length ls → now ≡ ls ++ drop w out → n ≡ length ms → part ≡ ms ++ drop n (take (length now - w) (drop w now)) → putMid w (length now - w) now part ≡ (ls ++ ms) ++ drop (w + n) out
+behind out now part ls ms w n ew eo en ep =
+    let rest : drop w now ≡ drop w out = ap (drop w) eo ∙ drop-at ls (drop w out) w (sym ew) in
+    let front : take w now ≡ ls = ap (take w) eo ∙ take-at ls (drop w out) w (sym ew) in
+    let size : length (drop w now) ≡ length now - w = length-drop w now in
+    let whole : take (length now - w) (drop w now) ≡ drop w now = take-all (length now - w) (drop w now) (omega (arith, size)) in
+    let none : drop (length now - w) (drop w now) ≡ [] = ap (λ k. drop k (drop w now)) (sym size) ∙ drop-length (drop w now) in
+    (λ i. front i ++ ((ep ∙ ap (λ l. ms ++ drop n l) (whole ∙ rest) ∙ ap (λ l. ms ++ l) (drop-drop n w out)) i ++ none i))
+    ∙ ap (λ l. ls ++ l) (append-nil (ms ++ drop (w + n) out))
+    ∙ sym (append-assoc ls ms (drop (w + n) out))
+
+-- the first `taken` bytes of a piece were fed
+pub record Sofar (x : Listing) (piece out : List ℕ) (taken written : ℕ) (now : List ℕ) (y : Listing) : Type 0 where
+  pub within : taken ≤ length piece
+  pub long : length now ≡ length out
+  pub fits : written ≤ length out
+  pub slow : written ≤ 50 * taken
+  pub fed : (input : List ℕ) (es : List Entry) → Listens input es x → FedOn input piece es out (record { taken = taken; written = written }) now y
+  pub went : (input : List ℕ) (es : List Entry) → Listens input es x → WentOn input piece es out (record { taken = taken; written = written })
+
+pub sofar-none : (x : Listing) (piece out : List ℕ) → Sofar x piece out 0 0 out x
+sofar-none x piece out = record {
+  within = omega arith;
+  long = refl;
+  fits = omega arith;
+  slow = omega arith;
+  fed = λ input es L. record {
+    more = [];
+    listens = subst (λ l. Listens l (es ++ []) x) (sym (append-nil input)) (subst (λ l. Listens input l x) (sym (append-nil es)) L);
+    counts = refl;
+    holds = refl;
+  };
+  went = λ input es L i h. absurd (omega arith);
+}
+
+module _ (x : Listing) (piece out : List ℕ) (i w : ℕ) (now : List ℕ) (y : Listing) (S : Sofar x piece out i w now y) (b n : ℕ) (part : List ℕ) (z : Listing) (lt : i < length piece) (is : b ≡ getD piece i 0) (room : 50 ≤ length now - w) (small : n ≤ 50) (took : (input : List ℕ) (es : List Entry) → Listens input es y → Took input es b (take (length now - w) (drop w now)) n part z) where
+  fed-more : (input : List ℕ) (es : List Entry) → Listens input es x → FedOn input piece es out (record { taken = i + 1; written = w + n }) (putMid w (length now - w) now part) z
+  fed-more input es L =
+      let F = S .fed input es L in
+      let T = took (input ++ take i piece) (es ++ F .more) (F .listens) in
+      let bytes : (input ++ take i piece) ++ b ∷ [] ≡ input ++ take (i + 1) piece = append-assoc input (take i piece) (b ∷ []) ∙ ap (λ l. input ++ l) (ap (λ v. take i piece ++ v ∷ []) is ∙ sym (take-more piece i 0 lt)) in
+      let all = lines-append (F .more) (T .more) in
+      record {
+        more = F .more ++ T .more;
+        listens = subst (λ l. Listens l (es ++ (F .more ++ T .more)) z) bytes (subst (λ l. Listens ((input ++ take i piece) ++ b ∷ []) l z) (append-assoc es (F .more) (T .more)) (T .listens));
+        counts = omega (arith, F .counts, T .counts, ap length all, length-append (lines (F .more)) (lines (T .more)));
+        holds = behind out now part (lines (F .more)) (lines (T .more)) w n (F .counts) (F .holds) (T .counts) (T .holds) ∙ ap (λ l. l ++ drop (w + n) out) (sym all);
+      }
+
+  went-here : (input : List ℕ) (es : List Entry) → Listens input es x → (fs : List Entry) (q : ℕ) (r : List ℕ) → Reads 0 (tapeOf (input ++ take i piece)) (es ++ fs) q r → length (lines fs) + 50 ≤ length out
+  went-here input es L fs q r R =
+      let F = S .fed input es L in
+      let same = append-cancel-left es fs (F .more) (reads-one R (F .listens .follows .reads) .entries) in
+      omega (arith, ap (λ l. length (lines l)) same, F .counts, S .long)
+
+  pub sofar-more : length part ≡ length now - w → Sofar x piece out (i + 1) (w + n) (putMid w (length now - w) now part) z
+  sofar-more kept = record {
+    within = omega arith;
+    long = length-kept w (length now - w) now part (omega (arith, S .fits, S .long)) kept ∙ S .long;
+    fits = omega (arith, S .fits, S .long);
+    slow = omega (arith, S .slow);
+    fed = fed-more;
+    went = λ input es L. below-more _ _ (S .went input es L) (went-here input es L);
+  }
