@@ -17,5 +17,5 @@ ascending n (f ∷ fs) = leb n (f .bit) && ltb (f .bit) 16 && ascending (f .bit 
 abbrev pub Fields-stand-in-order : Type 0
 Fields-stand-in-order = (p : Packet Record) → ascending 0 (fields p) ≡ true
 
-abbrev pub No-house-record-is-longer-than-18 : Type 0
-No-house-record-is-longer-than-18 = (p : Packet Record) → length (houseOf p) ≤ 18
+abbrev pub No-house-record-is-longer-than : ℕ → Type 0
+No-house-record-is-longer-than n = (p : Packet Record) → length (houseOf p) ≤ n

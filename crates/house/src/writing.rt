@@ -43,19 +43,19 @@ const RAIN_MAP: u16 = 0x1883;
 
 const METER_MAP: u16 = 0x1403;
 
-fn write_interface(seq: u8, record: &InterfaceMessage, out: &mut [u8]) -> Result<usize, Refusal>
-    ensures { λ r. ⌜ Put (laid (interfaceFields seq (now («record» .entry)))) (now (out .entry)) r (now (out .exit)) ⌝ }
+fn write_interface(seq: u8, interface: &InterfaceMessage, out: &mut [u8]) -> Result<usize, Refusal>
+    ensures { λ r. ⌜ Put (laid (interfaceFields seq (now (interface .entry)))) (now (out .entry)) r (now (out .exit)) ⌝ }
 {
     let [map0, map1] = INTERFACE_MAP.to_be_bytes();
-    let [m1, m2, m3, m4, m5, m6, m7, m8, m9] = record.messages;
+    let [m1, m2, m3, m4, m5, m6, m7, m8, m9] = interface.messages;
     put(
         &[
             map0,
             map1,
             InterfaceKind::TYPE,
-            record.subtype,
+            interface.subtype,
             seq,
-            record.command,
+            interface.command,
             m1,
             m2,
             m3,
@@ -70,8 +70,12 @@ fn write_interface(seq: u8, record: &InterfaceMessage, out: &mut [u8]) -> Result
     )
 }
 
-fn write_transmitter(seq: u8, record: &TransmitterMessage, out: &mut [u8]) -> Result<usize, Refusal>
-    ensures { λ r. ⌜ Put (laid (transmitterFields seq (now («record» .entry)))) (now (out .entry)) r (now (out .exit)) ⌝ }
+fn write_transmitter(
+    seq: u8,
+    transmitter: &TransmitterMessage,
+    out: &mut [u8],
+) -> Result<usize, Refusal>
+    ensures { λ r. ⌜ Put (laid (transmitterFields seq (now (transmitter .entry)))) (now (out .entry)) r (now (out .exit)) ⌝ }
 {
     let [map0, map1] = TRANSMITTER_MAP.to_be_bytes();
     put(
@@ -79,76 +83,76 @@ fn write_transmitter(seq: u8, record: &TransmitterMessage, out: &mut [u8]) -> Re
             map0,
             map1,
             TransmitterKind::TYPE,
-            record.subtype,
+            transmitter.subtype,
             seq,
-            record.message,
+            transmitter.message,
         ],
         out,
     )
 }
 
-fn write_blinds(seq: u8, record: &Blinds, out: &mut [u8]) -> Result<usize, Refusal>
-    ensures { λ r. ⌜ Put (laid (blindsFields seq (now («record» .entry)))) (now (out .entry)) r (now (out .exit)) ⌝ }
+fn write_blinds(seq: u8, blinds: &Blinds, out: &mut [u8]) -> Result<usize, Refusal>
+    ensures { λ r. ⌜ Put (laid (blindsFields seq (now (blinds .entry)))) (now (out .entry)) r (now (out .exit)) ⌝ }
 {
     let [map0, map1] = BLINDS_MAP.to_be_bytes();
-    let [id0, id1, id2, id3] = record.id.to_be_bytes();
+    let [id0, id1, id2, id3] = blinds.id.to_be_bytes();
     put(
         &[
             map0,
             map1,
             BlindsKind::TYPE,
-            record.subtype,
+            blinds.subtype,
             seq,
             id0,
             id1,
             id2,
             id3,
-            record.unit,
-            record.command,
-            record.battery,
-            record.strength,
+            blinds.unit,
+            blinds.command,
+            blinds.battery,
+            blinds.strength,
         ],
         out,
     )
 }
 
-fn write_security(seq: u8, record: &Security, out: &mut [u8]) -> Result<usize, Refusal>
-    ensures { λ r. ⌜ Put (laid (securityFields seq (now («record» .entry)))) (now (out .entry)) r (now (out .exit)) ⌝ }
+fn write_security(seq: u8, security: &Security, out: &mut [u8]) -> Result<usize, Refusal>
+    ensures { λ r. ⌜ Put (laid (securityFields seq (now (security .entry)))) (now (out .entry)) r (now (out .exit)) ⌝ }
 {
     let [map0, map1] = SECURITY_MAP.to_be_bytes();
-    let [id0, id1, id2, id3] = record.id.to_be_bytes();
+    let [id0, id1, id2, id3] = security.id.to_be_bytes();
     put(
         &[
             map0,
             map1,
             SecurityKind::TYPE,
-            record.subtype,
+            security.subtype,
             seq,
             id0,
             id1,
             id2,
             id3,
-            record.status,
-            record.battery,
-            record.strength,
+            security.status,
+            security.battery,
+            security.strength,
         ],
         out,
     )
 }
 
-fn write_climate(seq: u8, record: &Climate, out: &mut [u8]) -> Result<usize, Refusal>
-    ensures { λ r. ⌜ Put (laid (climateFields seq (now («record» .entry)))) (now (out .entry)) r (now (out .exit)) ⌝ }
+fn write_climate(seq: u8, climate: &Climate, out: &mut [u8]) -> Result<usize, Refusal>
+    ensures { λ r. ⌜ Put (laid (climateFields seq (now (climate .entry)))) (now (out .entry)) r (now (out .exit)) ⌝ }
 {
     let [map0, map1] = CLIMATE_MAP.to_be_bytes();
-    let [id0, id1, id2, id3] = (record.id as u32).to_be_bytes();
-    let [t0, t1] = record.temperature.to_be_bytes();
-    let [p0, p1] = record.pressure.to_be_bytes();
+    let [id0, id1, id2, id3] = (climate.id as u32).to_be_bytes();
+    let [t0, t1] = climate.temperature.to_be_bytes();
+    let [p0, p1] = climate.pressure.to_be_bytes();
     put(
         &[
             map0,
             map1,
             ClimateKind::TYPE,
-            record.subtype,
+            climate.subtype,
             seq,
             id0,
             id1,
@@ -156,31 +160,31 @@ fn write_climate(seq: u8, record: &Climate, out: &mut [u8]) -> Result<usize, Ref
             id3,
             t0,
             t1,
-            record.humidity,
-            record.humidity_status,
+            climate.humidity,
+            climate.humidity_status,
             p0,
             p1,
-            record.forecast,
-            record.battery,
-            record.strength,
+            climate.forecast,
+            climate.battery,
+            climate.strength,
         ],
         out,
     )
 }
 
-fn write_rain(seq: u8, record: &Rain, out: &mut [u8]) -> Result<usize, Refusal>
-    ensures { λ r. ⌜ Put (laid (rainFields seq (now («record» .entry)))) (now (out .entry)) r (now (out .exit)) ⌝ }
+fn write_rain(seq: u8, rain: &Rain, out: &mut [u8]) -> Result<usize, Refusal>
+    ensures { λ r. ⌜ Put (laid (rainFields seq (now (rain .entry)))) (now (out .entry)) r (now (out .exit)) ⌝ }
 {
     let [map0, map1] = RAIN_MAP.to_be_bytes();
-    let [id0, id1, id2, id3] = (record.id as u32).to_be_bytes();
-    let [r0, r1] = record.rate.to_be_bytes();
-    let [_, t0, t1, t2] = record.total.to_be_bytes();
+    let [id0, id1, id2, id3] = (rain.id as u32).to_be_bytes();
+    let [r0, r1] = rain.rate.to_be_bytes();
+    let [_, t0, t1, t2] = rain.total.to_be_bytes();
     put(
         &[
             map0,
             map1,
             RainKind::TYPE,
-            record.subtype,
+            rain.subtype,
             seq,
             id0,
             id1,
@@ -191,25 +195,25 @@ fn write_rain(seq: u8, record: &Rain, out: &mut [u8]) -> Result<usize, Refusal>
             t0,
             t1,
             t2,
-            record.battery,
-            record.strength,
+            rain.battery,
+            rain.strength,
         ],
         out,
     )
 }
 
-fn write_meter(seq: u8, record: &Meter, out: &mut [u8]) -> Result<usize, Refusal>
-    ensures { λ r. ⌜ Put (laid (meterFields seq (now («record» .entry)))) (now (out .entry)) r (now (out .exit)) ⌝ }
+fn write_meter(seq: u8, meter: &Meter, out: &mut [u8]) -> Result<usize, Refusal>
+    ensures { λ r. ⌜ Put (laid (meterFields seq (now (meter .entry)))) (now (out .entry)) r (now (out .exit)) ⌝ }
 {
     let [map0, map1] = METER_MAP.to_be_bytes();
-    let [id0, id1, id2, id3] = (record.id as u32).to_be_bytes();
-    let [c0, c1, c2, c3] = record.counter.to_be_bytes();
+    let [id0, id1, id2, id3] = (meter.id as u32).to_be_bytes();
+    let [c0, c1, c2, c3] = meter.counter.to_be_bytes();
     put(
         &[
             map0,
             map1,
             MeterKind::TYPE,
-            record.subtype,
+            meter.subtype,
             seq,
             id0,
             id1,
@@ -219,7 +223,7 @@ fn write_meter(seq: u8, record: &Meter, out: &mut [u8]) -> Result<usize, Refusal
             c1,
             c2,
             c3,
-            record.strength,
+            meter.strength,
         ],
         out,
     )
