@@ -54,12 +54,12 @@ spelled-more n rest (suc at) digits S h w =
     let d = 48 + rest % 10 in
     let one : suc at - 1 ≡ at = omega arith in
     let here : drop (suc at) (set digits (suc at) d) ≡ d ∷ drop (suc at + 1) digits =
-          drop-more (set digits (suc at) d) (suc at) 0 (omega (arith, length-set digits (suc at) d, S .sized, S .low))
-          ∙ (λ i. getD-set-same digits (suc at) d 0 (omega (arith, S .sized, S .low)) i ∷ drop-set-lt (suc at + 1) digits (suc at) d (omega arith) i) in
+    drop-more (set digits (suc at) d) (suc at) 0 (omega (arith, length-set digits (suc at) d, S .sized, S .low))
+    ∙ (λ i. getD-set-same digits (suc at) d 0 (omega (arith, S .sized, S .low)) i ∷ drop-set-lt (suc at + 1) digits (suc at) d (omega arith) i) in
     let whole : decimal n ≡ decimal (rest / 10) ++ drop (at + 1) (set digits (suc at) d) =
-          S .whole ∙ ap (λ l. l ++ drop (suc at + 1) digits) (decimal-step rest h (omega (arith, S .less)))
-          ∙ append-assoc (decimal (rest / 10)) (d ∷ []) (drop (suc at + 1) digits)
-          ∙ ap (λ l. decimal (rest / 10) ++ l) (sym here ∙ ap (λ k. drop k (set digits (suc at) d)) (sym (add-one at))) in
+    S .whole ∙ ap (λ l. l ++ drop (suc at + 1) digits) (decimal-step rest h (omega (arith, S .less)))
+    ∙ append-assoc (decimal (rest / 10)) (d ∷ []) (drop (suc at + 1) digits)
+    ∙ ap (λ l. decimal (rest / 10) ++ l) (sym here ∙ ap (λ k. drop k (set digits (suc at) d)) (sym (add-one at))) in
     subst (λ k. Spelled n (rest / 10) k (set digits (suc at) d)) (sym one)
     (record { whole = whole; sized = length-set digits (suc at) d ∙ S .sized; low = omega (arith, S .low); few = fewer rest at (S .few); less = omega (arith, S .less) })
 

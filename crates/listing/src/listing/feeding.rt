@@ -96,7 +96,8 @@ impl Listing {
 
     // Puts the closing line at the front of the buffer: the signals of the tape, and the bytes of its frame begun.
     pub fn close(&self, out: &mut [u8]) -> Result<usize, Refusal>
-        ensures { λ r. ⌜ ((input : List ℕ) (es : List Entry) (q : ℕ) (begun : List ℕ) → Listens input es (now (self .entry)) → Reads 0 (tapeOf input) es q begun → Put (closingOf (length (tapeOf input)) (length begun)) (now (out .entry)) r (now (out .exit))) ⌝ }
+        ensures closes { λ r. ⌜ ((input : List ℕ) (es : List Entry) (q : ℕ) (begun : List ℕ) → Listens input es (now (self .entry)) → Reads 0 (tapeOf input) es q begun → Put (closingOf (length (tapeOf input)) (length begun)) (now (out .entry)) r (now (out .exit))) ⌝ }
+        ensures puts { λ r. ⌜ Put (closingOf (model (now (self .entry) .reader) .signals) (model (now (self .entry) .reader) .held)) (now (out .entry)) r (now (out .exit)) ⌝ }
     {
         write_closing(self.reader.signals(), self.reader.begun(), out)
     }

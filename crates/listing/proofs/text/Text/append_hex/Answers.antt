@@ -9,9 +9,10 @@ use Rattle.listing.proofs.Texts.{hex-more}
 use Rattle.listing.proofs.text.Text.append_hex.Needs as need
 
 pub loop-b-again : need.loop-b-again
-loop-b-again c =
-    (hex-more _ _ (c .args .more .now) (c .loop-b .b-index) _ _ _ _ (c .loop-b .inv .0) (c .loop-b-test .taken) refl (c .hex-digit .ensures) (c .hex-digit-in-loop-b .ensures) (c .append .ensures .text),
-    omega (arith, c .append .ensures .len, c .loop-b .inv .1))
+loop-b-again c = (
+  hex-more _ _ (c .args .more .now) (c .loop-b .b-index) _ _ _ _ (c .loop-b .inv .0) (c .loop-b-test .taken) refl (c .hex-digit .ensures) (c .hex-digit-in-loop-b .ensures) (c .append .ensures .text),
+  omega (arith, c .append .ensures .len, c .loop-b .inv .1),
+)
 
 pub returns : need.returns
 returns c =
