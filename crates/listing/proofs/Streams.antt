@@ -5,20 +5,22 @@ use mathlib.Core.List.{List, [], _∷_, _++_, append-nil, append-assoc, append-c
 use Prim.Native.Nat.{ℕ, zero, suc, _+_, _-_, _*_, _≤_, _<_}
 use native.Mathlib.Decide.{decLt}
 use native.Mathlib.Omega.{arith}
-use borrow.Author.Count.{below-more}
 use borrow.Author.Tests.{eq-eqb, ne-eqb, lt-ltb, le-ltb}
 use borrow.Rule.Slice.PartMut.{putMid}
 use lib.Dec.{ltb}
-use lib.ListN.{length, getD, take, drop, length-append, length-drop}
-use lib.Seq.{take-all, length-take-le, take-append-le, drop-drop, drop-length}
+use lib.ListN.{length, getD, take, drop, length-append, length-drop, length-take, take-append-drop}
+use lib.Seq.{take-all, take-take, take-add, length-take-le, take-append-le, drop-drop, drop-length}
 use Rattle.std.proofs.shelf.Lists.{length-push, take-more, take-at, drop-at}
 use Rattle.std.specs.declared.option.Option.{Option}
 use Rattle.std.specs.declared.option.Option.the-variants.{Some, None}
 use Rattle.tape.specs.declared.signals.Signal.{Signal}
+use Rattle.tape.specs.declared.signals.Signal.the-variants.{Byte, Pause}
 use Rattle.tape.specs.declared.signals.Entry.{Entry}
 use Rattle.tape.specs.Follow.{Follows, limit, full, heard, model}
 use Rattle.tape.specs.Numbers.{signalOf}
 use Rattle.tape.specs.Reading.{Reads}
+use Rattle.tape.specs.Laws.{OfBytes}
+use Rattle.tape.proofs.Theorems.{entries-stay}
 use Rattle.tape.proofs.Unique.{reads-one}
 use Rattle.listing.proofs.Texts.{length-kept}
 use Rattle.listing.specs.declared.listing.Listing.{Listing}
@@ -80,6 +82,63 @@ over-more ss s =
           ∙ ap (λ v. cond v true (ltb limit (length ss))) (sym shut)
     ]
 
+-- the tape of a stream that grew is the tape, and more; and all of it is of bytes
+signal-bytes : (n : ℕ) → OfBytes (signalOf n ∷ [])
+signal-bytes n =
+    elim (decLt n 256) [
+      | yes h ↦ subst (λ b. OfBytes (cond b (Byte n) Pause ∷ [])) (sym (lt-ltb n 256 h)) (h, tt)
+      | no h ↦ subst (λ b. OfBytes (cond b (Byte n) Pause ∷ [])) (sym (le-ltb n 256 (omega arith))) tt
+    ]
+
+of-bytes-cons : (s : Signal) (t : List Signal) → OfBytes (s ∷ []) → OfBytes t → OfBytes (s ∷ t)
+of-bytes-cons (Byte b) t o p = (o .0, p)
+of-bytes-cons Pause t o p = p
+
+stream-bytes : (input : List ℕ) → OfBytes (signals input)
+stream-bytes [] = tt
+stream-bytes (h ∷ []) = tt
+stream-bytes (h ∷ l ∷ bs) = of-bytes-cons (signalOf (h * 256 + l)) (signals bs) (signal-bytes (h * 256 + l)) (stream-bytes bs)
+
+bytes-head : (s : Signal) (t : List Signal) → OfBytes (s ∷ t) → OfBytes (s ∷ [])
+bytes-head (Byte b) t o = (o .0, tt)
+bytes-head Pause t o = tt
+
+bytes-rest : (s : Signal) (t : List Signal) → OfBytes (s ∷ t) → OfBytes t
+bytes-rest (Byte b) t o = o .1
+bytes-rest Pause t o = o
+
+bytes-front : (n : ℕ) (t : List Signal) → OfBytes t → OfBytes (take n t)
+bytes-front zero t o = tt
+bytes-front (suc n) [] o = tt
+bytes-front (suc n) (s ∷ t) o = of-bytes-cons s (take n t) (bytes-head s t o) (bytes-front n t (bytes-rest s t o))
+
+bytes-behind : (n : ℕ) (t : List Signal) → OfBytes t → OfBytes (drop n t)
+bytes-behind zero t o = o
+bytes-behind (suc n) [] o = tt
+bytes-behind (suc n) (s ∷ t) o = bytes-behind n t (bytes-rest s t o)
+
+signals-longer : (input more : List ℕ) → (u : List Signal) × (signals (input ++ more) ≡ signals input ++ u)
+signals-longer [] more = (signals more, refl)
+signals-longer (h ∷ []) [] = ([], refl)
+signals-longer (h ∷ []) (l ∷ bs) = (signals (h ∷ l ∷ bs), refl)
+signals-longer (h ∷ l ∷ bs) more = let u = signals-longer bs more in (u .0, ap (λ ss. signalOf (h * 256 + l) ∷ ss) (u .1))
+
+tape-bytes : (input : List ℕ) → OfBytes (tapeOf input)
+tape-bytes input = bytes-front limit (signals input) (stream-bytes input)
+
+take-front : (m : ℕ) (xs ys : List Signal) → take (length (take m xs)) (take m (xs ++ ys)) ≡ take m xs
+take-front zero xs ys = refl
+take-front (suc m) [] ys = refl
+take-front (suc m) (x ∷ xs) ys = ap (λ l. x ∷ l) (take-front m xs ys)
+
+tape-grows : (input more : List ℕ) → (u : List Signal) × OfBytes u × (tapeOf (input ++ more) ≡ tapeOf input ++ u)
+tape-grows input more =
+    let n = length (tapeOf input) in
+    let whole = tapeOf (input ++ more) in
+    let u = signals-longer input more in
+    let front : take n whole ≡ tapeOf input = ap (λ l. take n (take limit l)) (u .1) ∙ take-front limit (signals input) (u .0) in
+    (drop n whole, bytes-behind n whole (tape-bytes (input ++ more)), sym (take-append-drop n whole) ∙ ap (λ l. l ++ drop n whole) front)
+
 -- a listing that follows a tape, by another name of it
 renamed : {t u : List Signal} {es fs : List Entry} (x : Listing) → t ≡ u → es ≡ fs → Follows t es (model (x .reader)) → Follows u fs (model (x .reader))
 renamed {t} {u} {es} {fs} x e f F = subst (λ l. Follows u l (model (x .reader))) f (subst (λ l. Follows l es (model (x .reader))) e F)
@@ -140,47 +199,105 @@ pub record Sofar (x : Listing) (piece out : List ℕ) (taken written : ℕ) (now
   pub fed : (input : List ℕ) (es : List Entry) → Listens input es x → FedOn input piece es out (record { taken = taken; written = written }) now y
   pub went : (input : List ℕ) (es : List Entry) → Listens input es x → WentOn input piece es out (record { taken = taken; written = written })
 
+pub fed-none : (x : Listing) (input piece : List ℕ) (es : List Entry) (out : List ℕ) → Listens input es x → FedOn input piece es out (record { taken = 0; written = 0 }) out x
+fed-none x input piece es out L = record {
+  more = [];
+  listens = subst (λ l. Listens l (es ++ []) x) (sym (append-nil input)) (subst (λ l. Listens input l x) (sym (append-nil es)) L);
+  counts = refl;
+  holds = refl;
+}
+
 pub sofar-none : (x : Listing) (piece out : List ℕ) → Sofar x piece out 0 0 out x
 sofar-none x piece out = record {
   within = omega arith;
   long = refl;
   fits = omega arith;
   slow = omega arith;
-  fed = λ input es L. record {
-    more = [];
-    listens = subst (λ l. Listens l (es ++ []) x) (sym (append-nil input)) (subst (λ l. Listens input l x) (sym (append-nil es)) L);
-    counts = refl;
-    holds = refl;
-  };
+  fed = λ input es L. fed-none x input piece es out L;
   went = λ input es L i h. absurd (omega arith);
 }
 
-module _ (x : Listing) (piece out : List ℕ) (i w : ℕ) (now : List ℕ) (y : Listing) (S : Sofar x piece out i w now y) (b n : ℕ) (part : List ℕ) (z : Listing) (lt : i < length piece) (is : b ≡ getD piece i 0) (room : 50 ≤ length now - w) (small : n ≤ 50) (took : (input : List ℕ) (es : List Entry) → Listens input es y → Took input es b (take (length now - w) (drop w now)) n part z) where
-  fed-more : (input : List ℕ) (es : List Entry) → Listens input es x → FedOn input piece es out (record { taken = i + 1; written = w + n }) (putMid w (length now - w) now part) z
+-- what comes behind the first bytes of a piece: the rest of it was fed as told
+module _ (x : Listing) (piece out : List ℕ) (i w : ℕ) (now : List ℕ) (y : Listing) (S : Sofar x piece out i w now y) (told : Fed) (part : List ℕ) (z : Listing) (lt : i < length piece) (room : 50 ≤ length now - w)
+    (fed : (input : List ℕ) (es : List Entry) → Listens input es y → FedOn input (take (length piece - i) (drop i piece)) es (take (length now - w) (drop w now)) told part z)
+    (went : (input : List ℕ) (es : List Entry) → Listens input es y → WentOn input (take (length piece - i) (drop i piece)) es (take (length now - w) (drop w now)) told)
+    (within : told .taken ≤ length (take (length piece - i) (drop i piece))) (slow : told .written ≤ 50 * told .taken) (small : told .written ≤ 50) where
+  rest : take (length piece - i) (drop i piece) ≡ drop i piece
+  rest = take-all (length piece - i) (drop i piece) (omega (arith, length-drop i piece))
+
+  rest-long : length (take (length piece - i) (drop i piece)) ≡ length piece - i
+  rest-long = ap length rest ∙ length-drop i piece
+
+  out-long : length (take (length now - w) (drop w now)) ≡ length now - w
+  out-long = ap length (take-all (length now - w) (drop w now) (omega (arith, length-drop w now))) ∙ length-drop w now
+
+  -- the stream with the first k bytes of the rest
+  stream : (input : List ℕ) (k : ℕ) → (input ++ take i piece) ++ take k (take (length piece - i) (drop i piece)) ≡ input ++ take (i + k) piece
+  stream input k = append-assoc input (take i piece) _ ∙ ap (λ l. input ++ l) (ap (λ l. take i piece ++ take k l) rest ∙ sym (take-add i k piece))
+
+  fed-more : (input : List ℕ) (es : List Entry) → Listens input es x → FedOn input piece es out (record { taken = i + told .taken; written = w + told .written }) (putMid w (length now - w) now part) z
   fed-more input es L =
       let F = S .fed input es L in
-      let T = took (input ++ take i piece) (es ++ F .more) (F .listens) in
-      let bytes : (input ++ take i piece) ++ b ∷ [] ≡ input ++ take (i + 1) piece = append-assoc input (take i piece) (b ∷ []) ∙ ap (λ l. input ++ l) (ap (λ v. take i piece ++ v ∷ []) is ∙ sym (take-more piece i 0 lt)) in
+      let T = fed (input ++ take i piece) (es ++ F .more) (F .listens) in
       let all = lines-append (F .more) (T .more) in
       record {
         more = F .more ++ T .more;
-        listens = subst (λ l. Listens l (es ++ (F .more ++ T .more)) z) bytes (subst (λ l. Listens ((input ++ take i piece) ++ b ∷ []) l z) (append-assoc es (F .more) (T .more)) (T .listens));
+        listens = subst (λ l. Listens l (es ++ (F .more ++ T .more)) z) (stream input (told .taken)) (subst (λ l. Listens ((input ++ take i piece) ++ take (told .taken) (take (length piece - i) (drop i piece))) l z) (append-assoc es (F .more) (T .more)) (T .listens));
         counts = omega (arith, F .counts, T .counts, ap length all, length-append (lines (F .more)) (lines (T .more)));
-        holds = behind out now part (lines (F .more)) (lines (T .more)) w n (F .counts) (F .holds) (T .counts) (T .holds) ∙ ap (λ l. l ++ drop (w + n) out) (sym all);
+        holds = behind out now part (lines (F .more)) (lines (T .more)) w (told .written) (F .counts) (F .holds) (T .counts) (T .holds) ∙ ap (λ l. l ++ drop (w + told .written) out) (sym all);
       }
 
-  went-here : (input : List ℕ) (es : List Entry) → Listens input es x → (fs : List Entry) (q : ℕ) (r : List ℕ) → Reads 0 (tapeOf (input ++ take i piece)) (es ++ fs) q r → length (lines fs) + 50 ≤ length out
-  went-here input es L fs q r R =
+  -- a byte of the rest
+  went-rest : (input : List ℕ) (es : List Entry) → Listens input es x → (k : ℕ) → k < told .taken → (fs : List Entry) (q : ℕ) (r : List ℕ) → Reads 0 (tapeOf (input ++ take (i + k) piece)) (es ++ fs) q r → length (lines fs) + 50 ≤ length out
+  went-rest input es L k lk fs q r R =
       let F = S .fed input es L in
-      let same = append-cancel-left es fs (F .more) (reads-one R (F .listens .follows .reads) .entries) in
-      omega (arith, ap (λ l. length (lines l)) same, F .counts, S .long)
+      let here = input ++ take i piece in
+      let more = tape-grows here (take k (take (length piece - i) (drop i piece))) in
+      let R′ : Reads 0 (tapeOf (here ++ take k (take (length piece - i) (drop i piece)))) (es ++ fs) q r = subst (λ l. Reads 0 (tapeOf l) (es ++ fs) q r) (sym (stream input k)) R in
+      let kept = entries-stay (tapeOf here) (more .0) (es ++ F .more) (es ++ fs) _ q _ r (tape-bytes here) (more .1) (F .listens .follows .reads) (subst (λ t. Reads 0 t (es ++ fs) q r) (more .2) R′) in
+      let same : fs ≡ F .more ++ kept .0 = append-cancel-left es fs (F .more ++ kept .0) (kept .1 ∙ append-assoc es (F .more) (kept .0)) in
+      let R″ : Reads 0 (tapeOf (here ++ take k (take (length piece - i) (drop i piece)))) ((es ++ F .more) ++ kept .0) q r = subst (λ l. Reads 0 (tapeOf (here ++ take k (take (length piece - i) (drop i piece)))) l q r) (kept .1) R′ in
+      let last = went here (es ++ F .more) (F .listens) k lk (kept .0) q r R″ in
+      omega (arith, last, out-long, S .long, F .counts, ap (λ l. length (lines l)) same, ap length (lines-append (F .more) (kept .0)), length-append (lines (F .more)) (lines (kept .0)))
 
-  pub sofar-more : length part ≡ length now - w → Sofar x piece out (i + 1) (w + n) (putMid w (length now - w) now part) z
+  went-more : (input : List ℕ) (es : List Entry) → Listens input es x → WentOn input piece es out (record { taken = i + told .taken; written = w + told .written })
+  went-more input es L j lj fs q r R =
+      elim (decLt j i) [
+        | yes h ↦ S .went input es L j h fs q r R
+        | no h ↦
+            let e : j ≡ i + (j - i) = omega arith in
+            went-rest input es L (j - i) (omega arith) fs q r (subst (λ n. Reads 0 (tapeOf (input ++ take n piece)) (es ++ fs) q r) e R)
+      ]
+
+  pub sofar-more : length part ≡ length now - w → Sofar x piece out (i + told .taken) (w + told .written) (putMid w (length now - w) now part) z
   sofar-more kept = record {
-    within = omega arith;
+    within = omega (arith, rest-long);
     long = length-kept w (length now - w) now part (omega (arith, S .fits, S .long)) kept ∙ S .long;
     fits = omega (arith, S .fits, S .long);
     slow = omega (arith, S .slow);
     fed = fed-more;
-    went = λ input es L. below-more _ _ (S .went input es L) (went-here input es L);
+    went = went-more;
   }
+
+-- one byte, taken as the front of a piece
+module _ (x : Listing) (piece out : List ℕ) (b n : ℕ) (after : List ℕ) (y : Listing) (some : 0 < length piece) (is : b ≡ getD piece 0 0) (took : (input : List ℕ) (es : List Entry) → Listens input es x → Took input es b out n after y) where
+  first : take 1 piece ≡ b ∷ []
+  first = take-more piece 0 0 some ∙ ap (λ v. v ∷ []) (sym is)
+
+  pub byte-fed : (input : List ℕ) (es : List Entry) → Listens input es x → FedOn input piece es out (record { taken = 1; written = n }) after y
+  byte-fed input es L =
+      let T = took input es L in
+      record {
+        more = T .more;
+        listens = subst (λ l. Listens (input ++ l) (es ++ T .more) y) (sym first) (T .listens);
+        counts = T .counts;
+        holds = T .holds;
+      }
+
+  pub byte-went : 50 ≤ length out → (input : List ℕ) (es : List Entry) → Listens input es x → WentOn input piece es out (record { taken = 1; written = n })
+  byte-went wide input es L i h fs q r R =
+      let z : i ≡ 0 = omega arith in
+      let here : tapeOf (input ++ take i piece) ≡ tapeOf input = ap (λ k. tapeOf (input ++ take k piece)) z ∙ ap tapeOf (append-nil input) in
+      let same = reads-one (subst (λ t. Reads 0 t (es ++ fs) q r) here R) (L .follows .reads) .entries in
+      let gone : fs ≡ [] = append-cancel-left es fs [] (same ∙ sym (append-nil es)) in
+      omega (arith, ap (λ l. length (lines l)) gone)

@@ -2,3 +2,4 @@ pub mod Text
 pub mod Lines
 pub mod Listing
 pub mod Steps
+pub mod Gathered

@@ -2,10 +2,11 @@
 use mathlib.Core.Path.{_≡_, refl, sym, ap, subst, _∙_}
 use mathlib.Core.Logic.{_⊎_, inl, inr}
 use mathlib.Core.List.{List, [], _∷_, _++_, map, append-nil, append-assoc}
-use Prim.Native.Nat.{ℕ, suc, _+_, _≤_, _<_}
+use Prim.Native.Nat.{ℕ, zero, suc, _+_, _≤_, _<_}
 use native.Mathlib.Decide.{decLt}
 use native.Mathlib.Omega.{arith}
-use lib.ListN.{length, getD, length-append}
+use lib.ListN.{length, getD, take, length-append}
+use lib.Seq.{take-suc, take-all, getD-take, length-take-le}
 use Rattle.std.proofs.shelf.Lists.{map-append}
 use Rattle.tape.specs.declared.signals.Signal.{Signal}
 use Rattle.tape.specs.declared.signals.Signal.the-variants.{Byte, Pause}
@@ -81,3 +82,28 @@ order m n h = elim (decLt m n) [ yes l ↦ inl l | no g ↦ inr (omega arith) ]
 -- the tape that has no signal
 pub reads-none : Reads 0 [] [] 0 []
 reads-none = last {bs = []} refl none
+
+-- the first bytes of a frame
+pub grow-front : {t : List Signal} {es : List Entry} {q : ℕ} → Reads 0 t es q [] → (f : List ℕ) (j : ℕ) → j ≤ length f → j ≤ getD f 0 0 → Reads 0 (t ++ map Byte (take j f)) es q (take j f)
+grow-front {t} {es} {q} R f zero h g = subst (λ l. Reads 0 l es q []) (sym (append-nil t)) R
+grow-front {t} {es} {q} R f (suc j) h g =
+    let b = getD f j 0 in
+    let more : take j f ++ b ∷ [] ≡ take (suc j) f = sym (take-suc f j 0 h) in
+    let len : len-byte (take j f) b ≡ getD f 0 0 = ap (λ r. getD r 0 0) more ∙ getD-take (suc j) f 0 0 (omega arith) in
+    let size : length (take j f) ≡ j = length-take-le j f (omega arith) in
+    let S = grow-more (grow-front R f j (omega arith) (omega arith)) b (omega (arith, len, size)) in
+    subst (λ r. Reads 0 (t ++ map Byte r) es q r) more
+    (subst (λ l. Reads 0 l es q (take j f ++ b ∷ [])) (append-assoc t (map Byte (take j f)) (Byte b ∷ []) ∙ ap (λ l. t ++ l) (sym (map-append Byte (take j f) (b ∷ [])))) S)
+
+-- a whole frame
+pub grow-frame : {t : List Signal} {es : List Entry} {q : ℕ} → Reads 0 t es q [] → (f : List ℕ) → length f ≡ getD f 0 0 + 1 → (a : Entry) → Tells q f a → Reads 0 (t ++ map Byte f) (es ++ a ∷ []) (q + length f) []
+grow-frame {t} {es} {q} R f w a A =
+    let j = getD f 0 0 in
+    let b = getD f j 0 in
+    let more : take j f ++ b ∷ [] ≡ f = sym (take-suc f j 0 (omega arith)) ∙ take-all (suc j) f (omega arith) in
+    let len : len-byte (take j f) b ≡ j = ap (λ r. getD r 0 0) more in
+    let size : length (take j f) ≡ j = length-take-le j f (omega arith) in
+    let S = grow-full (grow-front R f j (omega arith) (omega arith)) b (omega (arith, len, size)) a (subst (λ l. Tells q l a) (sym more) A) in
+    let tape : (t ++ map Byte (take j f)) ++ Byte b ∷ [] ≡ t ++ map Byte f = append-assoc t (map Byte (take j f)) (Byte b ∷ []) ∙ ap (λ l. t ++ l) (sym (map-append Byte (take j f) (b ∷ [])) ∙ ap (map Byte) more) in
+    let place : q + suc (len-byte (take j f) b) ≡ q + length f = omega (arith, len, w) in
+    subst (λ n. Reads 0 (t ++ map Byte f) (es ++ a ∷ []) n []) place (subst (λ l. Reads 0 l (es ++ a ∷ []) (q + suc (len-byte (take j f) b)) []) tape S)

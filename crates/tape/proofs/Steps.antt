@@ -1,12 +1,12 @@
 -- What each kind of step does to the reading.
 use mathlib.Core.Path.{_≡_, refl, sym, ap, subst, _∙_}
 use mathlib.Core.Bool.{Bool, true, false, cond}
-use mathlib.Core.List.{List, [], _∷_, _++_, append-nil}
+use mathlib.Core.List.{List, [], _∷_, _++_, map, append-nil}
 use Prim.Native.Nat.{ℕ, suc, _+_, _≤_, _<_}
 use native.Mathlib.Omega.{arith}
-use lib.ListN.{length, getD, take, drop, set}
+use lib.ListN.{length, getD, take, set, length-append}
 use lib.Seq.{length-take-le, getD-take}
-use Rattle.std.proofs.shelf.Lists.{take-more-set, length-push}
+use Rattle.std.proofs.shelf.Lists.{take-more-set, length-push, length-map}
 use Rattle.std.specs.declared.result.Result.the-variants.{Err}
 use borrow.Author.Tests.{eq-eqb, ne-eqb}
 use Rattle.frame.specs.declared.faults.Fault.the-variants.{Cut}
@@ -18,7 +18,7 @@ use Rattle.tape.specs.declared.signals.Step.{Step}
 use Rattle.tape.specs.declared.signals.Step.the-variants.{Quiet, Read, Full}
 use Rattle.tape.specs.Reading.{Tells, cut, Reads}
 use Rattle.tape.specs.Follow.{limit, full, heard, gained, isFull, Held, Follows, Took}
-use Rattle.tape.proofs.Grow.{len-byte, held, grow-more, grow-full, grow-pause, retold, reads-none}
+use Rattle.tape.proofs.Grow.{len-byte, held, grow-more, grow-full, grow-pause, grow-frame, retold, reads-none}
 
 -- a reading, its place and its frame begun written another way
 pub moved : {t : List Signal} {es : List Entry} {q q′ : ℕ} {r r′ : List ℕ} → q ≡ q′ → r ≡ r′ → Reads 0 t es q r → Reads 0 t es q′ r′
@@ -87,3 +87,12 @@ module _ (t : List Signal) (es : List Entry) (s : Signal) (x y : Held) (F : Foll
       let one : cut (x .place) (take (x .held) (x .bytes)) ≡ a ∷ [] = cut-some (x .place) (take (x .held) (x .bytes)) (omega (arith, held-is)) ∙ ap (λ v. v ∷ []) same in
       let at : x .place + length (take (x .held) (x .bytes)) ≡ y .place = omega (arith, held-is) in
       took (Read a) refl (subst (λ v. Reads 0 (t ++ v ∷ []) (es ++ a ∷ []) (y .place) (take (y .held) (y .bytes))) (sym e) (retold (ap (λ l. es ++ l) one) (moved at (ap (λ n. take n (y .bytes)) (sym yh)) R)))
+
+-- a whole frame at once
+pub took-frame : (t : List Signal) (es : List Entry) (f : List ℕ) (a : Entry) (x y : Held) → Follows t es x → x .held ≡ 0 → length f ≡ getD f 0 0 + 1 → a .place ≡ x .place → told (a .verdict) ≡ verdictOf f → y .held ≡ 0 → y .place ≡ x .place + length f → y .signals ≡ x .signals + length f → Follows (t ++ map Byte f) (es ++ a ∷ []) y
+took-frame t es f a x y F none w pl to yh yp ys =
+    let R = grow-frame (moved refl (ap (λ n. take n (x .bytes)) none) (F .reads)) f w a (record { placed = pl; judged = to }) in
+    record {
+      reads = moved (sym yp) (ap (λ n. take n (y .bytes)) (sym yh)) R;
+      count = length-append t (map Byte f) ∙ omega (arith, F .count, length-map f Byte);
+    }

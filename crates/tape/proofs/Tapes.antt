@@ -1,11 +1,11 @@
 -- Each tape reader is the reader of some tape, so that its contracts are never empty.
 use mathlib.Core.Path.{_≡_, refl, sym, ap, subst, _∙_}
-use mathlib.Core.List.{List, [], _∷_, _++_}
+use mathlib.Core.List.{List, [], _∷_, _++_, map}
 use Prim.Native.Nat.{ℕ, zero, suc, _+_, _-_, _≤_, _<_}
 use native.Mathlib.Omega.{arith}
-use lib.ListN.{length, getD, take}
-use lib.Seq.{take-suc, getD-take, length-take-le}
-use Rattle.std.proofs.shelf.Lists.{length-push}
+use lib.ListN.{length, getD, take, length-append}
+use lib.Seq.{length-take-le}
+use Rattle.std.proofs.shelf.Lists.{length-push, length-map}
 use Rattle.tape.specs.declared.signals.Signal.{Signal}
 use Rattle.tape.specs.declared.signals.Signal.the-variants.{Byte, Pause}
 use Rattle.tape.specs.declared.signals.Entry.{Entry}
@@ -13,7 +13,7 @@ use Rattle.tape.specs.declared.reader.TapeReader.{TapeReader}
 use Rattle.tape.specs.Reading.{Reads}
 use Rattle.tape.specs.Follow.{Follows, model}
 use Rattle.tape.specs.Laws.{Each-reader-has-a-tape}
-use Rattle.tape.proofs.Grow.{len-byte, grow-more, grow-full, grow-pause, reads-none}
+use Rattle.tape.proofs.Grow.{grow-front, grow-full, grow-pause, reads-none}
 use Rattle.tape.proofs.Exists.{tells-some}
 use Rattle.tape.proofs.Steps.{moved}
 
@@ -42,14 +42,11 @@ zeros n (suc m) =
     zero-bytes (suc i) = omega arith
 
 fronts : (n m : ℕ) (bs : List ℕ) (j : ℕ) → j ≤ length bs → j ≤ getD bs 0 0 → At (n + m + j) m (take j bs)
-fronts n m bs zero h g = let A = zeros n m in record { tape = A .tape; entries = A .entries; long = omega (arith, A .long); reads = A .reads }
-fronts n m bs (suc j) h g =
-    let A = fronts n m bs j (omega arith) (omega arith) in
-    let b = getD bs j 0 in
-    let more : take j bs ++ b ∷ [] ≡ take (suc j) bs = sym (take-suc bs j 0 h) in
-    let L-is : len-byte (take j bs) b ≡ getD bs 0 0 = ap (λ r. getD r 0 0) more ∙ getD-take (suc j) bs 0 0 (omega arith) in
-    let size : length (take j bs) ≡ j = length-take-le j bs (omega arith) in
-    record { tape = A .tape ++ Byte b ∷ []; entries = A .entries; long = omega (arith, length-push (A .tape) (Byte b), A .long); reads = moved refl more (grow-more (A .reads) b (omega (arith, L-is, size))) }
+fronts n m bs j h g =
+    let A = zeros n m in
+    let more = map Byte (take j bs) in
+    let size : length more ≡ j = length-map (take j bs) Byte ∙ length-take-le j bs h in
+    record { tape = A .tape ++ more; entries = A .entries; long = omega (arith, length-append (A .tape) more, size, A .long); reads = grow-front (A .reads) bs j h g }
 
 pub has-tape : Each-reader-has-a-tape
 has-tape x =

@@ -1,10 +1,10 @@
 -- What a tape reader holds, and what one more signal gives (docs/READING.md).
 use mathlib.Core.Path.{_≡_}
-use mathlib.Core.Bool.{Bool, true, false, cond}
+use mathlib.Core.Bool.{Bool, true, false, cond, _&&_}
 use mathlib.Core.List.{List, [], _∷_, _++_}
-use Prim.Native.Nat.{ℕ}
-use lib.Dec.{eqb}
-use lib.ListN.{length, take}
+use Prim.Native.Nat.{ℕ, _+_}
+use lib.Dec.{eqb, leb}
+use lib.ListN.{length, getD, take}
 use Rattle.tape.specs.declared.signals.Signal.{Signal}
 use Rattle.tape.specs.declared.signals.Entry.{Entry}
 use Rattle.tape.specs.declared.signals.Step.{Step}
@@ -54,3 +54,7 @@ isFull Full = true
 pub record Took (t : List Signal) (es : List Entry) (s : Signal) (r : Step) (x : Held) : Type 0 where
   pub refuses : isFull r ≡ full t
   pub follows : Follows (heard t s) (es ++ gained r) x
+
+-- a reader takes the bytes f at once if no frame is begun, if they are a whole frame, and if the tape has room for them
+abbrev pub atOnce : Held → List ℕ → Bool
+atOnce x f = eqb (x .held) 0 && eqb (length f) (getD f 0 0 + 1) && leb (x .signals + length f) limit

@@ -1,16 +1,17 @@
 // A stream listed piece by piece.
 ghost use mathlib.Core.Path.{_≡_};
-ghost use mathlib.Core.List.{List, []};
-ghost use Prim.Native.Nat.{ℕ, _≤_};
-ghost use lib.ListN.{length};
+ghost use mathlib.Core.List.{List, [], _∷_, _++_};
+ghost use Prim.Native.Nat.{ℕ, _*_, _≤_, _<_};
+ghost use lib.ListN.{length, drop};
 ghost use Rattle.refusal.specs.Output.{Put};
 ghost use Rattle.tape.specs.declared.signals.Signal.{Signal as Heard};
 ghost use Rattle.tape.specs.declared.signals.Entry.{Entry};
 ghost use Rattle.tape.specs.Follow.{Follows, model};
 ghost use Rattle.tape.specs.Reading.{Reads};
-ghost use Rattle.listing.specs.Lines.{closingOf};
+ghost use Rattle.listing.specs.Lines.{lines, closingOf};
 ghost use Rattle.listing.specs.Listing.{tapeOf, Listens, FedOn, WentOn, Stops};
 ghost use Rattle.listing.specs.Steps.{Stepped, Took};
+use crate::gathering::gather;
 use crate::line::write_closing;
 use crate::line::write_line;
 use crate::listing::Fed;
@@ -18,8 +19,22 @@ use crate::listing::LINE;
 use crate::listing::Listing;
 use refusal::refusals::Refusal;
 use tape::reader::TapeReader;
+use tape::signals::Entry;
 use tape::signals::Signal;
 use tape::signals::Step;
+
+// Puts the line of an entry at the front of a buffer that has room for it.
+fn line_of(entry: &Entry, out: &mut [u8]) -> usize
+    requires { ⌜ 50 ≤ length (now out) ⌝ }
+    ensures counts { λ r. ⌜ r ≡ length (lines (now (entry .entry) ∷ [])) ⌝ }
+    ensures holds { λ r. ⌜ now (out .exit) ≡ lines (now (entry .entry) ∷ []) ++ drop r (now (out .entry)) ⌝ }
+    ensures short { λ r. ⌜ r ≤ 50 ⌝ }
+{
+    match write_line(entry, out) {
+        Ok(n) => n,
+        Err(_) => 0,
+    }
+}
 
 impl Listing {
     // The listing of the stream that has no byte.
@@ -45,10 +60,7 @@ impl Listing {
                 self.over = true;
                 0
             }
-            Step::Read(entry) => match write_line(&entry, out) {
-                Ok(n) => n,
-                Err(_) => 0,
-            },
+            Step::Read(entry) => line_of(&entry, out),
         }
     }
 
@@ -70,6 +82,57 @@ impl Listing {
         }
     }
 
+    // Takes a frame that lies whole at the front of the piece at once, and writes its line. Where there is none it takes nothing.
+    fn leap(&mut self, piece: &[u8], frame: &mut [u8], out: &mut [u8]) -> Fed
+        requires scratch { ⌜ 256 ≤ length (now frame) ⌝ }
+        requires room { ⌜ 50 ≤ length (now out) ⌝ }
+        ensures fed { λ r. ⌜ ((input : List ℕ) (es : List Entry) → Listens input es (now (self .entry)) → FedOn input (now (piece .entry)) es (now (out .entry)) r (now (out .exit)) (now (self .exit))) ⌝ }
+        ensures went { λ r. ⌜ ((input : List ℕ) (es : List Entry) → Listens input es (now (self .entry)) → WentOn input (now (piece .entry)) es (now (out .entry)) r) ⌝ }
+        ensures within { λ r. ⌜ r .taken ≤ length (now (piece .entry)) ⌝ }
+        ensures short { λ r. ⌜ r .written ≤ 50 * r .taken ⌝ }
+        ensures one { λ r. ⌜ r .written ≤ 50 ⌝ }
+        ensures still { λ r. ⌜ (r .taken ≡ 0 → (now (out .exit) ≡ now (out .entry)) × (now (self .exit) ≡ now (self .entry))) ⌝ }
+    {
+        let none = Fed {
+            taken: 0,
+            written: 0,
+        };
+        if self.high.is_some() || self.reader.begun() != 0 {
+            return none;
+        }
+        let size = gather(piece, frame);
+        if size == 0 {
+            return none;
+        }
+        match self.reader.take_frame(&frame[0..size]) {
+            None => none,
+            Some(entry) => Fed {
+                taken: 2 * size,
+                written: line_of(&entry, out),
+            },
+        }
+    }
+
+    // Takes a whole frame, or else one byte.
+    fn advance(&mut self, piece: &[u8], frame: &mut [u8], out: &mut [u8]) -> Fed
+        requires scratch { ⌜ 256 ≤ length (now frame) ⌝ }
+        requires room { ⌜ 50 ≤ length (now out) ⌝ }
+        requires some { ⌜ 0 < length (now piece) ⌝ }
+        ensures fed { λ r. ⌜ ((input : List ℕ) (es : List Entry) → Listens input es (now (self .entry)) → FedOn input (now (piece .entry)) es (now (out .entry)) r (now (out .exit)) (now (self .exit))) ⌝ }
+        ensures went { λ r. ⌜ ((input : List ℕ) (es : List Entry) → Listens input es (now (self .entry)) → WentOn input (now (piece .entry)) es (now (out .entry)) r) ⌝ }
+        ensures within { λ r. ⌜ r .taken ≤ length (now (piece .entry)) ⌝ }
+        ensures moves { λ r. ⌜ 0 < r .taken ⌝ }
+        ensures short { λ r. ⌜ r .written ≤ 50 * r .taken ⌝ }
+        ensures one { λ r. ⌜ r .written ≤ 50 ⌝ }
+    {
+        let leap = self.leap(piece, frame, out);
+        if leap.taken > 0 {
+            return leap;
+        }
+        let written = self.hear(piece[0], out);
+        Fed { taken: 1, written }
+    }
+
     // Goes on with the listing: takes bytes from the front of the piece, and writes the lines that they complete to the front of
     // the buffer, as long as the buffer has room for a longest line.
     pub fn feed(&mut self, piece: &[u8], out: &mut [u8]) -> Fed
@@ -77,12 +140,13 @@ impl Listing {
         ensures went { λ r. ⌜ ((input : List ℕ) (es : List Entry) → Listens input es (now (self .entry)) → WentOn input (now (piece .entry)) es (now (out .entry)) r) ⌝ }
         ensures stops { λ r. ⌜ Stops (now (piece .entry)) (now (out .entry)) r ⌝ }
     {
+        let mut frame = [0; 256];
         let mut taken = 0;
         let mut written = 0;
         while taken < piece.len() && out.len() - written >= LINE {
-            let n = self.hear(piece[taken], &mut out[written..]);
-            written += n;
-            taken += 1;
+            let fed = self.advance(&piece[taken..], &mut frame, &mut out[written..]);
+            taken += fed.taken;
+            written += fed.written;
         }
         Fed { taken, written }
     }

@@ -1,10 +1,12 @@
 // What a reader of a tape does with a signal.
 ghost use mathlib.Core.Path.{_≡_};
-ghost use mathlib.Core.List.{List, []};
-ghost use lib.ListN.{length};
+ghost use mathlib.Core.List.{List, [], _∷_, _++_, map};
+ghost use Rattle.std.specs.Options.{isSome};
+ghost use Rattle.std.specs.declared.option.Option.the-variants.{Some, None};
 ghost use Rattle.tape.specs.declared.signals.Signal.{Signal as Heard};
+ghost use Rattle.tape.specs.declared.signals.Signal.the-variants.{Byte};
 ghost use Rattle.tape.specs.declared.signals.Entry.{Entry as Told};
-ghost use Rattle.tape.specs.Follow.{Follows, Took, model};
+ghost use Rattle.tape.specs.Follow.{Follows, Took, atOnce, model};
 use crate::reader::TapeReader;
 use crate::signals::Entry;
 use crate::signals::Signal;
@@ -56,6 +58,27 @@ impl TapeReader {
                 Step::Read(Entry { place, verdict })
             }
         }
+    }
+
+    // Takes all bytes of a whole frame at once, which is the same as taking them one by one. Where none begins, where the bytes are
+    // no whole frame, or where the tape has no room for them, it takes none.
+    pub fn take_frame(&mut self, frame: &[u8]) -> Option<Entry>
+        ensures took { λ r. ⌜ ((t : List Heard) (es : List Told) (e : Told) → Follows t es (model (now (self .entry))) → r ≡ Some e → Follows (t ++ map Byte (now (frame .entry))) (es ++ e ∷ []) (model (now (self .exit)))) ⌝ }
+        ensures takes { λ r. ⌜ isSome r ≡ atOnce (model (now (self .entry))) (now (frame .entry)) ⌝ }
+        ensures same { λ r. ⌜ (r ≡ None → now (self .exit) ≡ now (self .entry)) ⌝ }
+    {
+        let [len, ..] = frame else {
+            return None;
+        };
+        let size = *len as u32 + 1;
+        if self.held != 0 || frame.len() != size as usize || u32::MAX - self.signals < size {
+            return None;
+        }
+        let verdict = judge(frame);
+        let place = self.place;
+        self.place = place + size;
+        self.signals += size;
+        Some(Entry { place, verdict })
     }
 
     // How many signals were taken.
