@@ -1,4 +1,6 @@
 pub mod Texts
+pub mod Digits
+pub mod Table
 pub mod Houses
 pub mod Streams
 pub mod Numbers

@@ -1,91 +1,82 @@
--- Text that grows at its end, and the digits of a number.
+-- Text that grows in a buffer.
 use mathlib.Core.Path.{_≡_, refl, sym, ap, subst, _∙_}
-use mathlib.Core.List.{List, [], _∷_, _++_, append-nil, append-assoc}
-use Prim.Native.Nat.{ℕ, zero, suc, _+_, _-_, _*_, _/_, _%_, _^_, _≤_, _<_}
-use native.Mathlib.Nat.{pow-suc}
-use native.Mathlib.Numerals.{add-one}
+use mathlib.Core.List.{List, [], _∷_, _++_, append-assoc}
+use Prim.Native.Nat.{ℕ, _+_, _-_, _*_, _/_, _%_, _≤_, _<_}
 use native.Mathlib.Omega.{arith}
 use borrow.Rule.Slice.PartMut.{putMid}
-use lib.ListN.{length, getD, take, drop, set, length-append, length-drop, length-set}
-use lib.Seq.{length-take-le, drop-length, getD-set-same}
-use Rattle.std.proofs.shelf.Lists.{drop-more, drop-all, take-more, drop-set-lt}
-use Rattle.std.proofs.shelf.Parts.{take-putMid}
-use Rattle.std.proofs.shelf.Decimals.{decimal-digit, decimal-step}
-use Rattle.std.specs.Written.{decimal}
-use Rattle.listing.specs.Text.{hex, hexDigit}
+use lib.ListN.{length, getD, take, drop, set, length-append, length-drop, length-set, take-append-drop}
+use lib.Seq.{length-take-le, drop-drop}
+use Rattle.std.proofs.shelf.Lists.{take-more, take-more-set, drop-set-lt}
+use Rattle.std.proofs.shelf.Parts.{take-putMid, drop-putMid}
+use Rattle.listing.specs.Text.{hex, hexDigit, Grown}
 
 pub length-kept : (n k : ℕ) (xs ys : List ℕ) → n + k ≤ length xs → length ys ≡ k → length (putMid n k xs ys) ≡ length xs
 length-kept n k xs ys h e =
     omega (arith, length-append (take n xs) (ys ++ drop k (drop n xs)), length-append ys (drop k (drop n xs)), length-take-le n xs (omega arith), length-drop k (drop n xs), length-drop n xs)
 
--- the digits of n that are not yet written are those of `rest`, and the others stand behind `at`
-pub record Spelled (n rest at : ℕ) (digits : List ℕ) : Type 0 where
-  pub whole : decimal n ≡ decimal rest ++ drop (at + 1) digits
-  pub sized : length digits ≡ 10
-  pub low : at ≤ 9
-  pub few : rest < 10 ^ (at + 1)
-  pub less : rest ≤ n
+-- one piece
+pub grown-once : (out more part : List ℕ) (at : ℕ) → at + length more ≤ length out → part ≡ more → Grown out at more (putMid at (at + length more - at) out part) (at + length more)
+grown-once out more part at h e =
+    let long : length part ≡ length more = ap length e in
+    record {
+      ends = refl;
+      text = take-putMid at (at + length more - at) out part (at + length more) (omega (arith, long)) (omega arith) ∙ ap (λ l. take at out ++ l) e;
+      rest = drop-putMid at (at + length more - at) out part (at + length more) (omega arith) (omega arith) (omega (arith, long));
+    }
 
-pub spelled-none : (n : ℕ) (digits : List ℕ) → n < 2 ^ 32 → length digits ≡ 10 → Spelled n n 9 digits
-spelled-none n digits h e = record {
-  whole = sym (append-nil (decimal n)) ∙ ap (λ l. decimal n ++ l) (sym (drop-all 10 digits (omega arith)));
-  sized = e;
-  low = omega arith;
-  few = omega arith;
-  less = omega arith;
+later : (k m : ℕ) (xs ys : List ℕ) → k ≤ m → drop k xs ≡ drop k ys → drop m xs ≡ drop m ys
+later k m xs ys h e =
+    let n : k + (m - k) ≡ m = omega arith in
+    ap (λ j. drop j xs) (sym n) ∙ sym (drop-drop (m - k) k xs) ∙ ap (drop (m - k)) e ∙ drop-drop (m - k) k ys ∙ ap (λ j. drop j ys) n
+
+-- one piece behind another
+pub grown-more : (out mid after : List ℕ) (at m e : ℕ) (a b : List ℕ) → Grown out at a mid m → Grown mid m b after e → Grown out at (a ++ b) after e
+grown-more out mid after at m e a b A B = record {
+  ends = omega (arith, A .ends, B .ends, length-append a b);
+  text = B .text ∙ ap (λ l. l ++ b) (A .text) ∙ append-assoc (take at out) a b;
+  rest = B .rest ∙ later m e mid out (omega (arith, B .ends)) (A .rest);
 }
 
-more-room : (rest at : ℕ) → 10 ≤ rest → rest < 10 ^ (at + 1) → 1 ≤ at
-more-room rest zero h f = absurd (omega arith)
-more-room rest (suc at) h f = omega arith
+pub grown-same : (out after : List ℕ) (at e : ℕ) (a b : List ℕ) → a ≡ b → Grown out at a after e → Grown out at b after e
+grown-same out after at e a b p G = subst (λ l. Grown out at l after e) p G
 
-add-suc-one : (at : ℕ) → suc at + 1 ≡ suc (at + 1)
-add-suc-one at = omega arith
+-- text that was written from the front on
+pub grown-front : (out more after : List ℕ) (e : ℕ) → Grown out 0 more after e → after ≡ more ++ drop e out
+grown-front out more after e G = sym (take-append-drop e after) ∙ (λ i. G .text i ++ G .rest i)
 
--- one digit fewer
-fewer : (rest at : ℕ) → rest < 10 ^ (suc at + 1) → rest / 10 < 10 ^ (at + 1)
-fewer rest at f =
-    let e : 10 ^ (suc at + 1) ≡ 10 ^ (at + 1) * 10 = ap (λ n. 10 ^ n) (add-suc-one at) ∙ pow-suc 10 (at + 1) in
-    omega (arith, e)
+pub grown-size : (out more after : List ℕ) (e : ℕ) → Grown out 0 more after e → e ≡ length more
+grown-size out more after e G = omega (arith, G .ends)
 
-pub spelled-more : (n rest at : ℕ) (digits : List ℕ) → Spelled n rest at digits → 10 ≤ rest → n < 2 ^ 32 → Spelled n (rest / 10) (at - 1) (set digits at (48 + rest % 10))
-spelled-more n rest zero digits S h w = absurd (omega (arith, more-room rest zero h (S .few)))
-spelled-more n rest (suc at) digits S h w =
-    let d = 48 + rest % 10 in
-    let one : suc at - 1 ≡ at = omega arith in
-    let here : drop (suc at) (set digits (suc at) d) ≡ d ∷ drop (suc at + 1) digits =
-    drop-more (set digits (suc at) d) (suc at) 0 (omega (arith, length-set digits (suc at) d, S .sized, S .low))
-    ∙ (λ i. getD-set-same digits (suc at) d 0 (omega (arith, S .sized, S .low)) i ∷ drop-set-lt (suc at + 1) digits (suc at) d (omega arith) i) in
-    let whole : decimal n ≡ decimal (rest / 10) ++ drop (at + 1) (set digits (suc at) d) =
-    S .whole ∙ ap (λ l. l ++ drop (suc at + 1) digits) (decimal-step rest h (omega (arith, S .less)))
-    ∙ append-assoc (decimal (rest / 10)) (d ∷ []) (drop (suc at + 1) digits)
-    ∙ ap (λ l. decimal (rest / 10) ++ l) (sym here ∙ ap (λ k. drop k (set digits (suc at) d)) (sym (add-one at))) in
-    subst (λ k. Spelled n (rest / 10) k (set digits (suc at) d)) (sym one)
-    (record { whole = whole; sized = length-set digits (suc at) d ∙ S .sized; low = omega (arith, S .low); few = fewer rest at (S .few); less = omega (arith, S .less) })
-
-pub spelled-all : (n rest at : ℕ) (digits : List ℕ) → Spelled n rest at digits → rest < 10 → drop at (set digits at (48 + rest)) ≡ decimal n
-spelled-all n rest at digits S h =
-    drop-more (set digits at (48 + rest)) at 0 (omega (arith, length-set digits at (48 + rest), S .sized, S .low))
-    ∙ (λ i. getD-set-same digits at (48 + rest) 0 (omega (arith, S .sized, S .low)) i ∷ drop-set-lt (at + 1) digits at (48 + rest) (omega arith) i)
-    ∙ ap (λ l. l ++ drop (at + 1) digits) (sym (decimal-digit rest h))
-    ∙ sym (S .whole)
-
-pub hex-append : (xs ys : List ℕ) → hex (xs ++ ys) ≡ hex xs ++ hex ys
+hex-append : (xs ys : List ℕ) → hex (xs ++ ys) ≡ hex xs ++ hex ys
 hex-append [] ys = refl
 hex-append (x ∷ xs) ys = ap (λ l. hexDigit (x / 16) ∷ hexDigit (x % 16) ∷ l) (hex-append xs ys)
 
+-- two more bytes
+grown-two : (out mid : List ℕ) (at e : ℕ) (xs : List ℕ) (h l : ℕ) → e + 2 ≤ length mid → Grown out at xs mid e → Grown out at (xs ++ (h ∷ l ∷ [])) (set (set mid e h) (e + 1) l) (e + 2)
+grown-two out mid at e xs h l fits G =
+    let one = set mid e h in
+    let two : take (e + 2) (set one (e + 1) l) ≡ (take e mid ++ h ∷ []) ++ l ∷ [] =
+    ap (λ n. take n (set one (e + 1) l)) (succ e) ∙ take-more-set one (e + 1) l (omega (arith, length-set mid e h)) ∙ ap (λ t. t ++ l ∷ []) (take-more-set mid e h (omega arith)) in
+    record {
+      ends = omega (arith, G .ends, length-append xs (h ∷ l ∷ []));
+      text = two ∙ append-assoc (take e mid) (h ∷ []) (l ∷ []) ∙ ap (λ t. t ++ (h ∷ l ∷ [])) (G .text) ∙ append-assoc (take at out) xs (h ∷ l ∷ []);
+      rest = drop-set-lt (e + 2) one (e + 1) l (omega arith) ∙ drop-set-lt (e + 2) mid e h (omega arith) ∙ later e (e + 2) mid out (omega arith) (G .rest);
+    }
+  where
+    succ : (e : ℕ) → e + 2 ≡ e + 1 + 1
+    succ e = omega arith
+
 -- one byte more in hexadecimal
-pub hex-more : (text before more : List ℕ) (i b h l : ℕ) (after : List ℕ) → text ≡ before ++ hex (take i more) → i < length more → b ≡ getD more i 0 → h ≡ hexDigit (b / 16) → l ≡ hexDigit (b % 16) → after ≡ text ++ (h ∷ l ∷ []) → after ≡ before ++ hex (take (i + 1) more)
-hex-more text before more i b h l after inv lt eb eh el ea =
-    ea ∙ ap (λ t. t ++ (h ∷ l ∷ [])) inv ∙ append-assoc before (hex (take i more)) (h ∷ l ∷ [])
-    ∙ ap (λ t. before ++ t) (ap (λ t. hex (take i more) ++ t) (λ j. eh j ∷ el j ∷ []) ∙ sym (hex-append (take i more) (b ∷ [])) ∙ ap hex (ap (λ v. take i more ++ v ∷ []) eb ∙ sym (take-more more i 0 lt)))
+pub grown-hex : (out mid : List ℕ) (at e i : ℕ) (more : List ℕ) (b h l : ℕ) → e + 2 ≤ length mid → i < length more → b ≡ getD more i 0 → h ≡ hexDigit (b / 16) → l ≡ hexDigit (b % 16) → Grown out at (hex (take i more)) mid e → Grown out at (hex (take (i + 1) more)) (set (set mid e h) (e + 1) l) (e + 2)
+grown-hex out mid at e i more b h l fits lt eb eh el G =
+    let text : hex (take i more) ++ (h ∷ l ∷ []) ≡ hex (take (i + 1) more) =
+    ap (λ t. hex (take i more) ++ t) (λ j. eh j ∷ el j ∷ []) ∙ sym (hex-append (take i more) (b ∷ [])) ∙ ap hex (ap (λ v. take i more ++ v ∷ []) eb ∙ sym (take-more more i 0 lt)) in
+    grown-same out _ at (e + 2) _ _ text (grown-two out mid at e (hex (take i more)) h l fits G)
 
--- what several appends make of a text
-pub three-appends : (t0 t1 t2 t3 a b c : List ℕ) → t1 ≡ t0 ++ a → t2 ≡ t1 ++ b → t3 ≡ t2 ++ c → t3 ≡ t0 ++ (a ++ (b ++ c))
-three-appends t0 t1 t2 t3 a b c e1 e2 e3 = e3 ∙ ap (λ t. t ++ c) (e2 ∙ ap (λ t. t ++ b) e1) ∙ ap (λ t. t ++ c) (append-assoc t0 a b) ∙ append-assoc t0 (a ++ b) c ∙ ap (λ t. t0 ++ t) (append-assoc a b c)
+pub length-hex : (xs : List ℕ) → length (hex xs) ≡ 2 * length xs
+length-hex [] = refl
+length-hex (x ∷ xs) = omega (arith, length-hex xs)
 
-pub four-appends : (t0 t1 t2 t3 t4 a b c d : List ℕ) → t1 ≡ t0 ++ a → t2 ≡ t1 ++ b → t3 ≡ t2 ++ c → t4 ≡ t3 ++ d → t4 ≡ t0 ++ (a ++ (b ++ (c ++ d)))
-four-appends t0 t1 t2 t3 t4 a b c d e1 e2 e3 e4 = three-appends t0 t1 t2 t4 a b (c ++ d) e1 e2 (e4 ∙ ap (λ t. t ++ d) e3 ∙ append-assoc t2 c d)
-
-pub five-appends : (t0 t1 t2 t3 t4 t5 a b c d e : List ℕ) → t1 ≡ t0 ++ a → t2 ≡ t1 ++ b → t3 ≡ t2 ++ c → t4 ≡ t3 ++ d → t5 ≡ t4 ++ e → t5 ≡ t0 ++ (a ++ (b ++ (c ++ (d ++ e))))
-five-appends t0 t1 t2 t3 t4 t5 a b c d e e1 e2 e3 e4 e5 = four-appends t0 t1 t2 t3 t5 a b c (d ++ e) e1 e2 e3 (e5 ∙ ap (λ t. t ++ e) e4 ∙ append-assoc t3 d e)
+-- the text that was written, as a part of the buffer
+pub grown-part : (out more after : List ℕ) (e : ℕ) → Grown out 0 more after e → take (e - 0) after ≡ more
+grown-part out more after e G = let n : e - 0 ≡ e = omega arith in ap (λ k. take k after) n ∙ G .text

@@ -1,10 +1,10 @@
--- Text as bytes: capital hexadecimal, and what a line holds so far (docs/LISTER.md).
+-- Text as bytes: capital hexadecimal, and text that grows in a buffer (docs/LISTER.md).
+use mathlib.Core.Path.{_≡_}
 use mathlib.Core.Bool.{cond}
-use mathlib.Core.List.{List, [], _∷_}
+use mathlib.Core.List.{List, [], _∷_, _++_}
 use Prim.Native.Nat.{ℕ, _+_, _/_, _%_}
 use lib.Dec.{ltb}
-use lib.ListN.{take}
-use Rattle.listing.specs.declared.text.Text.{Text}
+use lib.ListN.{length, take, drop}
 
 -- 0 to 9, then A to F
 abbrev pub hexDigit : ℕ → ℕ
@@ -15,5 +15,8 @@ abbrev pub hex : List ℕ → List ℕ
 hex [] = []
 hex (b ∷ bs) = hexDigit (b / 16) ∷ hexDigit (b % 16) ∷ hex bs
 
-abbrev pub textOf : Text → List ℕ
-textOf x = take (x .len) (x .bytes)
+-- `more` was written into a buffer from `at` on: it stands behind what was before it, and the rest is as it was
+pub record Grown (before : List ℕ) (at : ℕ) (more after : List ℕ) (end : ℕ) : Type 0 where
+  pub ends : end ≡ at + length more
+  pub text : take end after ≡ take at before ++ more
+  pub rest : drop end after ≡ drop end before

@@ -1,83 +1,88 @@
 // The lines of a listing.
-ghost use mathlib.Core.Path.{_≡_};
-ghost use mathlib.Core.List.{_++_};
 ghost use Prim.Native.Nat.{_+_, _≤_};
 ghost use lib.ListN.{length};
 ghost use Rattle.refusal.specs.Output.{Put};
 ghost use Rattle.listing.specs.Lines.{lineOf, recordPart, faultPart, verdictPart, closingOf};
-ghost use Rattle.listing.specs.Text.{textOf};
-use crate::text::Text;
+ghost use Rattle.listing.specs.Text.{Grown};
+use crate::text::append;
+use crate::text::append_decimal;
+use crate::text::append_hex;
 use frame::faults::Fault;
 use frame::packet::Packet;
 use house::writing::write_house;
 use record::records::Record;
+use refusal::output::put;
 use refusal::refusals::Refusal;
 use tape::signals::Entry;
 
-fn append_record(text: &mut Text, packet: &Packet<Record>)
-    requires { ⌜ now text .len ≤ 10 ⌝ }
-    ensures text { λ _. ⌜ textOf (now (text .exit)) ≡ textOf (now (text .entry)) ++ recordPart (now (packet .entry)) ⌝ }
-    ensures len { λ _. ⌜ now (text .exit) .len ≤ 49 ⌝ }
+// The longest line has so many bytes: a place of ten digits, ` R `, a house record of 18 bytes in hexadecimal, and the newline.
+pub const LINE: usize = 50;
+
+fn append_record(out: &mut [u8], at: usize, packet: &Packet<Record>) -> usize
+    requires { ⌜ at + 39 ≤ length (now out) ⌝ }
+    ensures text { λ r. ⌜ Grown (now (out .entry)) at (recordPart (now (packet .entry))) (now (out .exit)) r ⌝ }
+    ensures few { λ r. ⌜ r ≤ at + 39 ⌝ }
 {
-    text.append(b" R ");
+    let at = append(out, at, b" R ");
     let mut house = [0; 18];
     // 18 bytes hold every house record
     match write_house(packet, &mut house) {
-        Ok(size) => text.append_hex(&house[0..size]),
-        Err(_) => {}
+        Ok(size) => append_hex(out, at, &house[0..size]),
+        Err(_) => at,
     }
 }
 
-fn append_fault(text: &mut Text, fault: Fault)
-    requires { ⌜ now text .len ≤ 10 ⌝ }
-    ensures text { λ _. ⌜ textOf (now (text .exit)) ≡ textOf (now (text .entry)) ++ faultPart fault ⌝ }
-    ensures len { λ _. ⌜ now (text .exit) .len ≤ 49 ⌝ }
+fn append_fault(out: &mut [u8], at: usize, fault: Fault) -> usize
+    requires { ⌜ at + 39 ≤ length (now out) ⌝ }
+    ensures text { λ r. ⌜ Grown (now (out .entry)) at (faultPart fault) (now (out .exit)) r ⌝ }
+    ensures few { λ r. ⌜ r ≤ at + 39 ⌝ }
 {
-    text.append(b" F ");
-    text.append_decimal(fault.cause() as u32);
-    text.append(b" ");
-    text.append_decimal(fault.offset() as u32);
+    let at = append(out, at, b" F ");
+    let at = append_decimal(out, at, fault.cause() as u32);
+    let at = append(out, at, b" ");
+    append_decimal(out, at, fault.offset() as u32)
 }
 
-fn append_verdict(text: &mut Text, verdict: Result<Packet<Record>, Fault>)
-    requires { ⌜ now text .len ≤ 10 ⌝ }
-    ensures text { λ _. ⌜ textOf (now (text .exit)) ≡ textOf (now (text .entry)) ++ verdictPart verdict ⌝ }
-    ensures len { λ _. ⌜ now (text .exit) .len ≤ 49 ⌝ }
+fn append_verdict(out: &mut [u8], at: usize, verdict: Result<Packet<Record>, Fault>) -> usize
+    requires { ⌜ at + 39 ≤ length (now out) ⌝ }
+    ensures text { λ r. ⌜ Grown (now (out .entry)) at (verdictPart verdict) (now (out .exit)) r ⌝ }
+    ensures few { λ r. ⌜ r ≤ at + 39 ⌝ }
 {
     match verdict {
-        Ok(packet) => append_record(text, &packet),
-        Err(fault) => append_fault(text, fault),
+        Ok(packet) => append_record(out, at, &packet),
+        Err(fault) => append_fault(out, at, fault),
     }
 }
 
-fn compose(entry: &Entry) -> Text
-    ensures { λ r. ⌜ textOf r ≡ lineOf (now (entry .entry)) ⌝ }
+// Writes the line of an entry to the front of a buffer that has room for the longest.
+pub(crate) fn compose(entry: &Entry, out: &mut [u8]) -> usize
+    requires { ⌜ 50 ≤ length (now out) ⌝ }
+    ensures text { λ r. ⌜ Grown (now (out .entry)) 0 (lineOf (now (entry .entry))) (now (out .exit)) r ⌝ }
+    ensures few { λ r. ⌜ r ≤ 50 ⌝ }
 {
-    let mut text = Text::new();
-    text.append_decimal(entry.place);
-    append_verdict(&mut text, entry.verdict);
-    text.append(b"\n");
-    text
+    let at = append_decimal(out, 0, entry.place);
+    let at = append_verdict(out, at, entry.verdict);
+    append(out, at, b"\n")
 }
 
-// Puts the line of an entry at the front of the buffer. No line is longer than 50 bytes.
+// Puts the line of an entry at the front of the buffer.
 pub fn write_line(entry: &Entry, out: &mut [u8]) -> Result<usize, Refusal>
-    ensures line { λ r. ⌜ Put (lineOf (now (entry .entry))) (now (out .entry)) r (now (out .exit)) ⌝ }
-    ensures short { λ _. ⌜ length (lineOf (now (entry .entry))) ≤ 50 ⌝ }
+    ensures { λ r. ⌜ Put (lineOf (now (entry .entry))) (now (out .entry)) r (now (out .exit)) ⌝ }
 {
-    let text = compose(entry);
-    text.put(out)
+    let mut line = [0; 50];
+    let size = compose(entry, &mut line);
+    put(&line[0..size], out)
 }
 
 // Puts the closing line, of so many signals and so many bytes of the frame begun, at the front of the buffer.
 pub fn write_closing(signals: u32, begun: u8, out: &mut [u8]) -> Result<usize, Refusal>
     ensures { λ r. ⌜ Put (closingOf signals begun) (now (out .entry)) r (now (out .exit)) ⌝ }
 {
-    let mut text = Text::new();
-    text.append(b"E ");
-    text.append_decimal(signals);
-    text.append(b" ");
-    text.append_decimal(begun as u32);
-    text.append(b"\n");
-    text.put(out)
+    let mut line = [0; 50];
+    let at = append(&mut line, 0, b"E ");
+    let at = append_decimal(&mut line, at, signals);
+    let at = append(&mut line, at, b" ");
+    let at = append_decimal(&mut line, at, begun as u32);
+    let size = append(&mut line, at, b"\n");
+    put(&line[0..size], out)
 }

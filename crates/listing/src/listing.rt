@@ -3,9 +3,6 @@ use tape::reader::TapeReader;
 
 pub mod feeding;
 
-// The fewest places that a buffer has to have for a listing to go on: the longest line has so many bytes.
-pub const LINE: usize = 50;
-
 #[derive(Drop)]
 pub struct Listing {
     reader: TapeReader,

@@ -1,15 +1,75 @@
-// A line of text as it is put together. Its calls are in `writes`.
+// Text that is written into a buffer, piece behind piece. Each call writes from a place on and tells the place behind.
 ghost use mathlib.Core.Path.{_≡_};
-ghost use Prim.Native.Nat.{_≤_};
+ghost use Prim.Native.Nat.{_+_, _*_, _≤_};
 ghost use lib.ListN.{length};
+ghost use Rattle.std.specs.Written.{decimal};
+ghost use Rattle.listing.specs.Text.{hex, hexDigit, Grown};
 
-pub mod writes;
+// The capital hexadecimal digits.
+const DIGITS: [u8; 16] = *b"0123456789ABCDEF";
 
-// The longest line has 50 bytes: a place of ten digits, ` R `, a house record of 18 bytes in hexadecimal, and the newline.
-#[derive(Drop)]
-pub struct Text {
-    bytes: [u8; 50],
-    len: usize,
-    ghost sized: { length bytes ≡ 50 },
-    ghost fits: { len ≤ 50 },
+pub(crate) fn append(out: &mut [u8], at: usize, more: &[u8]) -> usize
+    requires { ⌜ at + length (now more) ≤ length (now out) ⌝ }
+    ensures { λ r. ⌜ Grown (now (out .entry)) at (now (more .entry)) (now (out .exit)) r ⌝ }
+{
+    let end = at + more.len();
+    out[at..end].copy_from_slice(more);
+    end
+}
+
+// How many digits a number has.
+fn digit_count(n: u32) -> usize
+    ensures count { λ r. ⌜ r ≡ length (decimal n) ⌝ }
+    ensures some { λ r. ⌜ 1 ≤ r ⌝ }
+    ensures few { λ r. ⌜ r ≤ 10 ⌝ }
+{
+    match n {
+        0..=9 => 1,
+        10..=99 => 2,
+        100..=999 => 3,
+        1_000..=9_999 => 4,
+        10_000..=99_999 => 5,
+        100_000..=999_999 => 6,
+        1_000_000..=9_999_999 => 7,
+        10_000_000..=99_999_999 => 8,
+        100_000_000..=999_999_999 => 9,
+        _ => 10,
+    }
+}
+
+pub(crate) fn append_decimal(out: &mut [u8], at: usize, n: u32) -> usize
+    requires { ⌜ at + 10 ≤ length (now out) ⌝ }
+    ensures text { λ r. ⌜ Grown (now (out .entry)) at (decimal n) (now (out .exit)) r ⌝ }
+    ensures few { λ r. ⌜ r ≤ at + 10 ⌝ }
+{
+    let end = at + digit_count(n);
+    let mut place = end - 1;
+    let mut rest = n;
+    while rest >= 10 {
+        out[place] = b'0' + (rest % 10) as u8;
+        rest /= 10;
+        place -= 1;
+    }
+    out[place] = b'0' + rest as u8;
+    end
+}
+
+fn hex_digit(n: u8) -> u8
+    requires { ⌜ n ≤ 15 ⌝ }
+    ensures { λ r. ⌜ r ≡ hexDigit n ⌝ }
+{
+    DIGITS[n as usize]
+}
+
+pub(crate) fn append_hex(out: &mut [u8], at: usize, more: &[u8]) -> usize
+    requires { ⌜ at + 2 * length (now more) ≤ length (now out) ⌝ }
+    ensures { λ r. ⌜ Grown (now (out .entry)) at (hex (now (more .entry))) (now (out .exit)) r ⌝ }
+{
+    let mut end = at;
+    for b in more {
+        out[end] = hex_digit(*b / 16);
+        out[end + 1] = hex_digit(*b % 16);
+        end += 2;
+    }
+    end
 }

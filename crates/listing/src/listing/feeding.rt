@@ -12,10 +12,10 @@ ghost use Rattle.listing.specs.Lines.{lines, closingOf};
 ghost use Rattle.listing.specs.Listing.{tapeOf, Listens, FedOn, WentOn, Stops};
 ghost use Rattle.listing.specs.Steps.{Stepped, Took};
 use crate::gathering::gather;
+use crate::line::LINE;
+use crate::line::compose;
 use crate::line::write_closing;
-use crate::line::write_line;
 use crate::listing::Fed;
-use crate::listing::LINE;
 use crate::listing::Listing;
 use refusal::refusals::Refusal;
 use tape::reader::TapeReader;
@@ -23,17 +23,14 @@ use tape::signals::Entry;
 use tape::signals::Signal;
 use tape::signals::Step;
 
-// Puts the line of an entry at the front of a buffer that has room for it.
+// Writes the line of an entry to the front of a buffer that has room for it.
 fn line_of(entry: &Entry, out: &mut [u8]) -> usize
     requires { ⌜ 50 ≤ length (now out) ⌝ }
     ensures counts { λ r. ⌜ r ≡ length (lines (now (entry .entry) ∷ [])) ⌝ }
     ensures holds { λ r. ⌜ now (out .exit) ≡ lines (now (entry .entry) ∷ []) ++ drop r (now (out .entry)) ⌝ }
     ensures short { λ r. ⌜ r ≤ 50 ⌝ }
 {
-    match write_line(entry, out) {
-        Ok(n) => n,
-        Err(_) => 0,
-    }
+    compose(entry, out)
 }
 
 impl Listing {

@@ -1,23 +1,14 @@
-use mathlib.Core.Path.{ap, _∙_}
-use mathlib.Core.List.{_++_}
+use mathlib.Core.Path.{ap}
 use native.Mathlib.Omega.{arith}
-use lib.Chars.{codes}
 use Rattle.std.specs.Written.{decimal}
-use Rattle.frame.specs.Faults.{causeOf, offsetOf}
-use Rattle.listing.specs.Text.{textOf}
-use Rattle.listing.proofs.Texts.{four-appends}
+use Rattle.listing.proofs.Texts.{grown-more, grown-same}
 use Rattle.listing.proofs.line.append_fault.Needs as need
 
 pub returns : need.returns
 returns c =
-    let t1 = textOf (c .append .last .self) in
-    let t3 = textOf (c .append-2 .last .self) in
-    let f = c .args .fault in
+    let cause = grown-same _ _ _ _ _ _ (ap decimal (c .cause .ensures)) (c .append-decimal-at .ensures .text) in
+    let offset = grown-same _ _ _ _ _ _ (ap decimal (c .offset .ensures)) (c .append-decimal .ensures .text) in
     record {
-      text = four-appends (textOf (c .args .text .now)) t1 (textOf (c .append-decimal .last .self)) t3 (textOf (c .append-decimal-2 .last .self)) (codes " F ") (decimal (causeOf f)) (codes " ") (decimal (offsetOf f))
-          (c .append .ensures .text)
-          (c .append-decimal .ensures .text ∙ ap (λ n. t1 ++ decimal n) (c .cause .ensures))
-          (c .append-2 .ensures .text)
-          (c .append-decimal-2 .ensures .text ∙ ap (λ n. t3 ++ decimal n) (c .offset .ensures));
-      len = omega (arith, c .append .ensures .len, c .append-decimal .ensures .len, c .append-2 .ensures .len, c .append-decimal-2 .ensures .len);
+      text = grown-more _ _ _ _ _ _ _ _ (c .append-at .ensures) (grown-more _ _ _ _ _ _ _ _ cause (grown-more _ _ _ _ _ _ _ _ (c .append-at-2 .ensures) offset));
+      few = omega (arith, c .append-at .ensures .ends, c .append-decimal-at .ensures .few, c .append-at-2 .ensures .ends, c .append-decimal .ensures .few);
     }
