@@ -2,7 +2,7 @@
 use mathlib.Core.Path.{_≡_, refl, sym, ap, subst, _∙_}
 use mathlib.Core.Bool.{Bool, true, false, cond}
 use mathlib.Core.List.{List, [], _∷_, _++_, append-nil, append-assoc, append-cancel-left}
-use Prim.Native.Nat.{ℕ, zero, suc, _+_, _-_, _*_, _≤_, _<_}
+use Prim.Native.Nat.{ℕ, zero, suc, _+_, _-_, _*_, _/_, _≤_, _<_}
 use native.Mathlib.Decide.{decLt}
 use native.Mathlib.Omega.{arith}
 use borrow.Author.Tests.{eq-eqb, ne-eqb, lt-ltb, le-ltb}
@@ -22,6 +22,7 @@ use Rattle.tape.specs.Reading.{Reads}
 use Rattle.tape.specs.Laws.{OfBytes}
 use Rattle.tape.proofs.Theorems.{entries-stay}
 use Rattle.tape.proofs.Unique.{reads-one}
+use Rattle.listing.proofs.Numbers.{signals-append, odd-append, signals-take}
 use Rattle.listing.proofs.Texts.{length-kept}
 use Rattle.listing.specs.declared.listing.Listing.{Listing}
 use Rattle.listing.specs.declared.listing.Fed.{Fed}
@@ -301,3 +302,41 @@ module _ (x : Listing) (piece out : List ℕ) (b n : ℕ) (after : List ℕ) (y 
       let same = reads-one (subst (λ t. Reads 0 t (es ++ fs) q r) here R) (L .follows .reads) .entries in
       let gone : fs ≡ [] = append-cancel-left es fs [] (same ∙ sym (append-nil es)) in
       omega (arith, ap (λ l. length (lines l)) gone)
+
+-- a signal number, taken as the front of a piece
+module _ (x : Listing) (piece out : List ℕ) (h l : ℕ) (s : Signal) (n : ℕ) (after : List ℕ) (z : Listing) (two : 2 ≤ length piece) (h-is : h ≡ getD piece 0 0) (l-is : l ≡ getD piece 1 0) (none : x .high ≡ None) (s-is : s ≡ signalOf (h * 256 + l)) (step : (t : List Signal) (fs : List Entry) → Follows t fs (model (x .reader)) → Stepped t fs s out n after x z) where
+  pair : take 2 piece ≡ h ∷ l ∷ []
+  pair = take-more piece 1 0 (omega arith) ∙ (λ i. (take-more piece 0 0 (omega arith) ∙ ap (λ v. v ∷ []) (sym h-is)) i ++ sym l-is i ∷ [])
+
+  pub pair-fed : (input : List ℕ) (es : List Entry) → Listens input es x → FedOn input piece es out (record { taken = 2; written = n }) after z
+  pair-fed input es L =
+      let free = sym (L .waits) ∙ none in
+      let S = step (tapeOf input) es (L .follows) in
+      let sig : signals (input ++ take 2 piece) ≡ signals input ++ s ∷ [] = ap (λ p. signals (input ++ p)) pair ∙ signals-append input (h ∷ l ∷ []) free ∙ ap (λ v. signals input ++ v ∷ []) (sym s-is) in
+      record {
+        more = S .more;
+        listens = record {
+          follows = renamed z (sym (tape-more (signals input) s) ∙ ap (take limit) (sym sig)) refl (S .follows);
+          waits = S .waits ∙ none ∙ sym (ap (λ p. odd (input ++ p)) pair ∙ odd-append input (h ∷ l ∷ []) free);
+          over = S .over ∙ ap (λ v. cond (full (tapeOf input)) true v) (L .over) ∙ sym (over-more (signals input) s) ∙ ap (λ ss. ltb limit (length ss)) (sym sig);
+        };
+        counts = S .counts;
+        holds = S .holds;
+      }
+
+  pub pair-went : 50 ≤ length out → (input : List ℕ) (es : List Entry) → Listens input es x → WentOn input piece es out (record { taken = 2; written = n })
+  pair-went wide input es L i lt fs q r R =
+      let free = sym (L .waits) ∙ none in
+      let none-new : signals (take i piece) ≡ [] = signals-take i piece ∙ ap (λ k. take k (signals piece)) (halved i lt) in
+      let here : tapeOf (input ++ take i piece) ≡ tapeOf input = ap (take limit) (signals-append input (take i piece) free ∙ ap (λ l. signals input ++ l) none-new ∙ append-nil (signals input)) in
+      let same = reads-one (subst (λ t. Reads 0 t (es ++ fs) q r) here R) (L .follows .reads) .entries in
+      let gone : fs ≡ [] = append-cancel-left es fs [] (same ∙ sym (append-nil es)) in
+      omega (arith, ap (λ l. length (lines l)) gone)
+    where
+      halved : (i : ℕ) → i < 2 → i / 2 ≡ 0
+      halved i h = omega arith
+
+-- a step from a state that is another by an equation
+pub stepped-still : {x y : Listing} {out now : List ℕ} {s : Signal} {n : ℕ} {after : List ℕ} {z : Listing} → x ≡ y → out ≡ now → ((t : List Signal) (fs : List Entry) → Follows t fs (model (y .reader)) → Stepped t fs s now n after y z) → (t : List Signal) (fs : List Entry) → Follows t fs (model (x .reader)) → Stepped t fs s out n after x z
+stepped-still {x} {y} {out} {now} {s} {n} {after} {z} e o step t fs F =
+    subst (λ v. Stepped t fs s out n after v z) (sym e) (subst (λ l. Stepped t fs s l n after y z) (sym o) (step t fs (subst (λ v. Follows t fs (model (v .reader))) e F)))

@@ -29,11 +29,12 @@ pub(crate) fn gather(numbers: &[u8], frame: &mut [u8]) -> usize
 fn copy_low(numbers: &[u8], size: usize, frame: &mut [u8]) -> bool
     requires numbers { ⌜ 2 * size ≤ length (now numbers) ⌝ }
     requires frame { ⌜ size ≤ length (now frame) ⌝ }
+    requires few { ⌜ size ≤ 256 ⌝ }
     ensures { λ r. ⌜ (r ≡ true → Gathered (now (numbers .entry)) size (now (frame .exit))) ⌝ }
 {
-    let mut highs = 0u8;
+    let mut highs = 0u32;
     for i in 0..size {
-        highs = highs.max(numbers[2 * i]);
+        highs += numbers[2 * i] as u32;
         frame[i] = numbers[2 * i + 1];
     }
     highs == 0

@@ -110,7 +110,7 @@ impl Listing {
         }
     }
 
-    // Takes a whole frame, or else one byte.
+    // Takes a whole frame, or else one signal number, or else one byte.
     fn advance(&mut self, piece: &[u8], frame: &mut [u8], out: &mut [u8]) -> Fed
         requires scratch { ⌜ 256 ≤ length (now frame) ⌝ }
         requires room { ⌜ 50 ≤ length (now out) ⌝ }
@@ -125,6 +125,11 @@ impl Listing {
         let leap = self.leap(piece, frame, out);
         if leap.taken > 0 {
             return leap;
+        }
+        if self.high.is_none() && piece.len() >= 2 {
+            let number = u16::from_be_bytes([piece[0], piece[1]]);
+            let written = self.step(Signal::from_number(number), out);
+            return Fed { taken: 2, written };
         }
         let written = self.hear(piece[0], out);
         Fed { taken: 1, written }
