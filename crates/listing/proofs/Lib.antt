@@ -5,3 +5,4 @@ pub mod Houses
 pub mod Streams
 pub mod Numbers
 pub mod Leaps
+pub mod Theorems

@@ -124,7 +124,7 @@ signals-longer (h ∷ []) [] = ([], refl)
 signals-longer (h ∷ []) (l ∷ bs) = (signals (h ∷ l ∷ bs), refl)
 signals-longer (h ∷ l ∷ bs) more = let u = signals-longer bs more in (u .0, ap (λ ss. signalOf (h * 256 + l) ∷ ss) (u .1))
 
-tape-bytes : (input : List ℕ) → OfBytes (tapeOf input)
+pub tape-bytes : (input : List ℕ) → OfBytes (tapeOf input)
 tape-bytes input = bytes-front limit (signals input) (stream-bytes input)
 
 take-front : (m : ℕ) (xs ys : List Signal) → take (length (take m xs)) (take m (xs ++ ys)) ≡ take m xs
@@ -175,7 +175,7 @@ took-second input es h b s out n after x y z L some es-is er eh eo step =
       holds = S .holds;
     }
 
-lines-append : (es fs : List Entry) → lines (es ++ fs) ≡ lines es ++ lines fs
+pub lines-append : (es fs : List Entry) → lines (es ++ fs) ≡ lines es ++ lines fs
 lines-append [] fs = refl
 lines-append (e ∷ es) fs = ap (λ l. lineOf e ++ l) (lines-append es fs) ∙ sym (append-assoc (lineOf e) (lines es) (lines fs))
 

@@ -3,3 +3,5 @@ pub mod Lines
 pub mod Listing
 pub mod Steps
 pub mod Gathered
+pub mod Laws
+pub mod Known
