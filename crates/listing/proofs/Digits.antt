@@ -12,7 +12,7 @@ use borrow.Author.Tests.{eqb-true}
 use Rattle.std.proofs.shelf.Lists.{drop-set, take-set-le, drop-set-lt}
 use Rattle.std.proofs.shelf.Decimals.{decimal-digit, decimal-step, decimal-some}
 use Rattle.std.specs.Written.{decimal}
-use Rattle.listing.specs.Text.{hexDigit, Grown}
+use Rattle.listing.specs.Text.{Grown, Spelled}
 
 ten-some : (k : ℕ) → 1 ≤ 10 ^ k
 ten-some zero = omega arith
@@ -36,17 +36,6 @@ digits-are (suc k) n l h w =
 
 pub digits-one : (n : ℕ) → n < 10 → length (decimal n) ≡ 1
 digits-one n h = ap length (decimal-digit n h)
-
--- the digits of n are written into a buffer from `end` down: those of `rest` are still to come, up to `place`
-pub record Spelled (out : List ℕ) (at n end rest place : ℕ) (now : List ℕ) : Type 0 where
-  pub whole : decimal n ≡ decimal rest ++ take (end - (place + 1)) (drop (place + 1) now)
-  pub left : place + 1 ≡ at + length (decimal rest)
-  pub ends : end ≡ at + length (decimal n)
-  pub front : take at now ≡ take at out
-  pub behind : drop end now ≡ drop end out
-  pub less : rest ≤ n
-  pub long : length now ≡ length out
-  pub fits : end ≤ length out
 
 pub spelled-none : (out : List ℕ) (at n end : ℕ) → end ≡ at + length (decimal n) → end ≤ length out → n < 2 ^ 32 → Spelled out at n end n (end - 1) out
 spelled-none out at n end e f w =
@@ -112,3 +101,33 @@ module _ (out : List ℕ) (at n end rest place : ℕ) (now : List ℕ) (S : Spel
         text = ap (λ k. take k (set now place d)) (sym size) ∙ take-add at (end - at) (set now place d) ∙ (λ i. (take-set-le at now place d (omega arith) ∙ S .front) i ++ digits i);
         rest = drop-set-lt end now place d below-end ∙ S .behind;
       }
+
+  -- two digits at once
+  pub spelled-two : (d e : ℕ) (r p : ℕ) → 100 ≤ rest → d ≡ 48 + rest % 10 → e ≡ 48 + rest / 10 % 10 → r ≡ rest / 10 / 10 → p ≡ place - 1 - 1 → ((S′ : Spelled out at n end (rest / 10) (place - 1) (set now place (48 + rest % 10))) → Spelled out at n end (rest / 10 / 10) (place - 1 - 1) (set (set now place (48 + rest % 10)) (place - 1) (48 + rest / 10 % 10))) → Spelled out at n end r p (set (set now place d) (place - 1) e)
+  spelled-two d e r p h ed ee er ep next =
+      let T = next (spelled-more (omega arith)) in
+      subst (λ k. Spelled out at n end r k (set (set now place d) (place - 1) e)) (sym ep)
+      (subst (λ k. Spelled out at n end k (place - 1 - 1) (set (set now place d) (place - 1) e)) (sym er)
+      (subst (λ k. Spelled out at n end (rest / 10 / 10) (place - 1 - 1) (set (set now place d) (place - 1) k)) (sym ee)
+      (subst (λ k. Spelled out at n end (rest / 10 / 10) (place - 1 - 1) (set (set now place k) (place - 1) (48 + rest / 10 % 10))) (sym ed) T)))
+
+-- two digits of a number that has three or more
+pub spelled-pair : (out : List ℕ) (at n end rest place : ℕ) (now : List ℕ) (d e r p : ℕ) → Spelled out at n end rest place now → n < 2 ^ 32 → 100 ≤ rest → d ≡ 48 + rest % 10 → e ≡ 48 + rest / 10 % 10 → r ≡ rest / 10 / 10 → p ≡ place - 1 - 1 → Spelled out at n end r p (set (set now place d) (place - 1) e)
+spelled-pair out at n end rest place now d e r p S w h ed ee er ep =
+    spelled-two out at n end rest place now S w d e r p h ed ee er ep (λ S′. spelled-more out at n end (rest / 10) (place - 1) (set now place (48 + rest % 10)) S′ w (omega arith))
+
+-- how many places a number of three digits or more leaves
+pub pair-room : (rest : ℕ) → 100 ≤ rest → rest < 2 ^ 32 → length (decimal (rest / 100)) + 2 ≡ length (decimal rest)
+pair-room rest h w =
+    let one = ap length (decimal-step rest (omega arith) (omega arith)) in
+    let two = ap length (decimal-step (rest / 10) (omega arith) (omega arith)) in
+    let same : rest / 10 / 10 ≡ rest / 100 = omega arith in
+    omega (arith, one, two, length-append (decimal (rest / 10)) ((48 + rest % 10) ∷ []), length-append (decimal (rest / 10 / 10)) ((48 + rest / 10 % 10) ∷ []), ap (λ k. length (decimal k)) same)
+
+-- the last two digits
+pub spelled-last : (out : List ℕ) (at n end rest place : ℕ) (now : List ℕ) (d e : ℕ) → Spelled out at n end rest place now → n < 2 ^ 32 → 10 ≤ rest → rest < 100 → d ≡ 48 + rest % 10 → e ≡ 48 + rest / 10 → Grown out at (decimal n) (set (set now place d) (place - 1) e) end
+spelled-last out at n end rest place now d e S w h g ed ee =
+    let S′ = spelled-more out at n end rest place now S w h in
+    let G = spelled-all out at n end (rest / 10) (place - 1) (set now place (48 + rest % 10)) S′ w (omega arith) in
+    subst (λ k. Grown out at (decimal n) (set (set now place d) (place - 1) k) end) (sym ee)
+    (subst (λ k. Grown out at (decimal n) (set (set now place k) (place - 1) (48 + rest / 10)) end) (sym ed) G)

@@ -2,9 +2,10 @@
 use mathlib.Core.Path.{_≡_}
 use mathlib.Core.Bool.{cond}
 use mathlib.Core.List.{List, [], _∷_, _++_}
-use Prim.Native.Nat.{ℕ, _+_, _/_, _%_}
+use Prim.Native.Nat.{ℕ, _+_, _-_, _/_, _%_, _≤_}
 use lib.Dec.{ltb}
 use lib.ListN.{length, take, drop}
+use Rattle.std.specs.Written.{decimal}
 
 -- 0 to 9, then A to F
 abbrev pub hexDigit : ℕ → ℕ
@@ -20,3 +21,14 @@ pub record Grown (before : List ℕ) (at : ℕ) (more after : List ℕ) (end : �
   pub ends : end ≡ at + length more
   pub text : take end after ≡ take at before ++ more
   pub rest : drop end after ≡ drop end before
+
+-- the digits of n are written into a buffer from `end` down: those of `rest` are still to come, up to `place`
+pub record Spelled (out : List ℕ) (at n end rest place : ℕ) (now : List ℕ) : Type 0 where
+  pub whole : decimal n ≡ decimal rest ++ take (end - (place + 1)) (drop (place + 1) now)
+  pub left : place + 1 ≡ at + length (decimal rest)
+  pub ends : end ≡ at + length (decimal n)
+  pub front : take at now ≡ take at out
+  pub behind : drop end now ≡ drop end out
+  pub less : rest ≤ n
+  pub long : length now ≡ length out
+  pub fits : end ≤ length out

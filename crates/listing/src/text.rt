@@ -1,9 +1,10 @@
 // Text that is written into a buffer, piece behind piece. Each call writes from a place on and tells the place behind.
 ghost use mathlib.Core.Path.{_≡_};
-ghost use Prim.Native.Nat.{_+_, _*_, _≤_};
+ghost use mathlib.Core.List.{List};
+ghost use Prim.Native.Nat.{ℕ, _+_, _*_, _^_, _≤_, _<_};
 ghost use lib.ListN.{length};
 ghost use Rattle.std.specs.Written.{decimal};
-ghost use Rattle.listing.specs.Text.{hex, hexDigit, Grown};
+ghost use Rattle.listing.specs.Text.{hex, hexDigit, Grown, Spelled};
 
 // The capital hexadecimal digits.
 const DIGITS: [u8; 16] = *b"0123456789ABCDEF";
@@ -37,20 +38,46 @@ fn digit_count(n: u32) -> usize
     }
 }
 
+// What is left to be written of a number's digits, and the place of the last of them.
+struct Left {
+    rest: u32,
+    place: usize,
+}
+
+// Writes the digits of a number from a place down, two at a time, as long as three are left.
+fn spell_pairs(out: &mut [u8], place: usize, n: u32) -> Left
+    requires room { ⌜ length (decimal n) ≤ place + 1 ⌝ }
+    requires within { ⌜ place < length (now out) ⌝ }
+    ensures spells { λ r. ⌜ ((before : List ℕ) (at m end : ℕ) → m < 2 ^ 32 → Spelled before at m end n place (now (out .entry)) → Spelled before at m end (r .rest) (r .place) (now (out .exit))) ⌝ }
+    ensures few { λ r. ⌜ r .rest < 100 ⌝ }
+    ensures room { λ r. ⌜ length (decimal (r .rest)) ≤ r .place + 1 ⌝ }
+    ensures within { λ r. ⌜ r .place < length (now (out .entry)) ⌝ }
+{
+    let mut rest = n;
+    let mut place = place;
+    while rest >= 100 {
+        let pair = rest % 100;
+        out[place] = b'0' + (pair % 10) as u8;
+        out[place - 1] = b'0' + (pair / 10) as u8;
+        rest /= 100;
+        place -= 2;
+    }
+    Left { rest, place }
+}
+
 pub(crate) fn append_decimal(out: &mut [u8], at: usize, n: u32) -> usize
     requires { ⌜ at + 10 ≤ length (now out) ⌝ }
     ensures text { λ r. ⌜ Grown (now (out .entry)) at (decimal n) (now (out .exit)) r ⌝ }
     ensures few { λ r. ⌜ r ≤ at + 10 ⌝ }
 {
     let end = at + digit_count(n);
-    let mut place = end - 1;
-    let mut rest = n;
-    while rest >= 10 {
-        out[place] = b'0' + (rest % 10) as u8;
-        rest /= 10;
-        place -= 1;
+    let Left { rest, place } = spell_pairs(out, end - 1, n);
+    if rest < 10 {
+        out[place] = b'0' + rest as u8;
+        return end;
     }
-    out[place] = b'0' + rest as u8;
+    out[place] = b'0' + (rest % 10) as u8;
+    out[place - 1] = b'0' + (rest / 10) as u8;
     end
 }
 

@@ -1,18 +1,32 @@
-use mathlib.Core.Path.{_≡_, refl, ap, _∙_}
-use Prim.Native.Nat.{_+_, _-_}
+use mathlib.Core.Path.{ap}
+use Prim.Native.Nat.{_+_}
 use native.Mathlib.Omega.{arith}
-use Rattle.listing.proofs.Digits.{spelled-none, spelled-more, spelled-all, spelled-room}
+use lib.ListN.{length}
+use Rattle.std.specs.Written.{decimal}
+use Rattle.listing.proofs.Digits.{spelled-none, spelled-all, spelled-last, digits-are}
 use Rattle.listing.proofs.text.append_decimal.Needs as need
 
-pub loop-rest-holds : need.loop-rest-holds
-loop-rest-holds c =
-    spelled-none (c .args .out .now) (c .args .at) (c .args .n) (c .args .at + c .digit-count .result) (ap (λ k. c .args .at + k) (c .digit-count .ensures .count)) (omega (arith, c .digit-count .ensures .few, c .pre)) (c .fits .n .fits)
+pub returns-then-rest-lt10 : need.returns-then-rest-lt10
+returns-then-rest-lt10 c =
+    let n = c .args .n in
+    let end = c .args .at + c .digit-count .result in
+    let S = spelled-none (c .args .out .now) (c .args .at) n end (ap (λ k. c .args .at + k) (c .digit-count .ensures .count)) (omega (arith, c .digit-count .ensures .few, c .pre)) (c .fits .n .fits) in
+    record {
+      text = spelled-all _ _ _ _ _ _ _ (c .spell-pairs-rest .ensures .spells (c .args .out .now) (c .args .at) n end (c .fits .n .fits) S) (c .fits .n .fits) (c .if-rest-lt10 .taken);
+      few = omega (arith, c .digit-count .ensures .few);
+    }
 
-pub sub-place-in-loop-rest : need.sub-place-in-loop-rest
-sub-place-in-loop-rest c = let r = spelled-room _ _ _ _ _ _ _ (c .loop-rest .inv) (c .fits .n .fits) (c .loop-rest-test .taken) in omega (arith, r)
-
-pub loop-rest-again : need.loop-rest-again
-loop-rest-again c = spelled-more _ _ _ _ _ _ _ (c .loop-rest .inv) (c .fits .n .fits) (c .loop-rest-test .taken)
+pub sub-out : need.sub-out
+sub-out c =
+    let r = c .spell-pairs-rest in
+    omega (arith, digits-are 1 (r .result .rest) (c .if-rest-lt10 .left) (r .ensures .few) (omega (arith, r .ensures .few)), r .ensures .room)
 
 pub returns : need.returns
-returns c = record { text = spelled-all _ _ _ _ _ _ _ (c .loop-rest .inv) (c .fits .n .fits) (c .loop-rest-test .left); few = omega (arith, c .digit-count .ensures .few) }
+returns c =
+    let n = c .args .n in
+    let end = c .args .at + c .digit-count .result in
+    let S = spelled-none (c .args .out .now) (c .args .at) n end (ap (λ k. c .args .at + k) (c .digit-count .ensures .count)) (omega (arith, c .digit-count .ensures .few, c .pre)) (c .fits .n .fits) in
+    record {
+      text = spelled-last _ _ _ _ _ _ _ _ _ (c .spell-pairs-rest .ensures .spells (c .args .out .now) (c .args .at) n end (c .fits .n .fits) S) (c .fits .n .fits) (c .if-rest-lt10 .left) (c .spell-pairs-rest .ensures .few) (omega arith) (omega arith);
+      few = omega (arith, c .digit-count .ensures .few);
+    }
