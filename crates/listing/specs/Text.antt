@@ -3,7 +3,7 @@ use mathlib.Core.Path.{_≡_}
 use mathlib.Core.Bool.{cond}
 use mathlib.Core.List.{List, [], _∷_, _++_}
 use Prim.Native.Nat.{ℕ, _+_, _-_, _/_, _%_, _≤_}
-use lib.Dec.{ltb}
+use lib.Dec.{ltb, eqb}
 use lib.ListN.{length, take, drop}
 use Rattle.std.specs.Written.{decimal}
 
@@ -15,6 +15,10 @@ hexDigit n = cond (ltb n 10) (48 + n) (55 + n)
 abbrev pub hex : List ℕ → List ℕ
 hex [] = []
 hex (b ∷ bs) = hexDigit (b / 16) ∷ hexDigit (b % 16) ∷ hex bs
+
+-- the digits of all bytes in a row: two to a byte, from byte 0 on
+abbrev pub digitOf : ℕ → ℕ
+digitOf index = cond (eqb (index % 2) 0) (hexDigit (index / 2 / 16)) (hexDigit (index / 2 % 16))
 
 -- `more` was written into a buffer from `at` on: it stands behind what was before it, and the rest is as it was
 pub record Grown (before : List ℕ) (at : ℕ) (more after : List ℕ) (end : ℕ) : Type 0 where

@@ -4,10 +4,18 @@ ghost use mathlib.Core.List.{List};
 ghost use Prim.Native.Nat.{ℕ, _+_, _*_, _^_, _≤_, _<_};
 ghost use lib.ListN.{length};
 ghost use Rattle.std.specs.Written.{decimal};
-ghost use Rattle.listing.specs.Text.{hex, hexDigit, Grown, Spelled};
+ghost use Rattle.listing.specs.Text.{hex, digitOf, Grown, Spelled};
 
-// The capital hexadecimal digits.
-const DIGITS: [u8; 16] = *b"0123456789ABCDEF";
+// The capital hexadecimal digits of every byte, two and two.
+const DIGITS: [u8; 512] = *b"\
+    000102030405060708090A0B0C0D0E0F101112131415161718191A1B1C1D1E1F\
+    202122232425262728292A2B2C2D2E2F303132333435363738393A3B3C3D3E3F\
+    404142434445464748494A4B4C4D4E4F505152535455565758595A5B5C5D5E5F\
+    606162636465666768696A6B6C6D6E6F707172737475767778797A7B7C7D7E7F\
+    808182838485868788898A8B8C8D8E8F909192939495969798999A9B9C9D9E9F\
+    A0A1A2A3A4A5A6A7A8A9AAABACADAEAFB0B1B2B3B4B5B6B7B8B9BABBBCBDBEBF\
+    C0C1C2C3C4C5C6C7C8C9CACBCCCDCECFD0D1D2D3D4D5D6D7D8D9DADBDCDDDEDF\
+    E0E1E2E3E4E5E6E7E8E9EAEBECEDEEEFF0F1F2F3F4F5F6F7F8F9FAFBFCFDFEFF";
 
 pub(crate) fn append(out: &mut [u8], at: usize, more: &[u8]) -> usize
     requires { ⌜ at + length (now more) ≤ length (now out) ⌝ }
@@ -81,11 +89,12 @@ pub(crate) fn append_decimal(out: &mut [u8], at: usize, n: u32) -> usize
     end
 }
 
-fn hex_digit(n: u8) -> u8
-    requires { ⌜ n ≤ 15 ⌝ }
-    ensures { λ r. ⌜ r ≡ hexDigit n ⌝ }
+// The digit at an index of the table.
+fn digit_at(index: usize) -> u8
+    requires { ⌜ index < 512 ⌝ }
+    ensures { λ r. ⌜ r ≡ digitOf index ⌝ }
 {
-    DIGITS[n as usize]
+    DIGITS[index]
 }
 
 pub(crate) fn append_hex(out: &mut [u8], at: usize, more: &[u8]) -> usize
@@ -94,8 +103,9 @@ pub(crate) fn append_hex(out: &mut [u8], at: usize, more: &[u8]) -> usize
 {
     let mut end = at;
     for b in more {
-        out[end] = hex_digit(*b / 16);
-        out[end + 1] = hex_digit(*b % 16);
+        let index = 2 * *b as usize;
+        out[end] = digit_at(index);
+        out[end + 1] = digit_at(index + 1);
         end += 2;
     }
     end

@@ -1,15 +1,16 @@
-use mathlib.Core.Path.{_≡_, refl, ap}
+use mathlib.Core.Path.{_≡_, refl, ap, _∙_}
 use native.Mathlib.Omega.{arith}
 use lib.ListN.{take}
 use lib.Seq.{take-all}
 use Rattle.listing.specs.Text.{hex}
+use Rattle.listing.proofs.Table.{high-digit, low-digit}
 use Rattle.listing.proofs.Texts.{grown-hex, grown-same}
 use Rattle.listing.proofs.text.append_hex.Needs as need
 
 pub loop-b-again : need.loop-b-again
 loop-b-again c =
     let l = c .loop-b in (
-      grown-hex (c .args .out .now) (l .out) (c .args .at) (l .end) (l .b-index) (c .args .more .now) _ _ _ (omega (arith, l .inv .1, c .pre, c .loop-b-test .taken)) (c .loop-b-test .taken) refl (c .hex-digit .ensures) (c .hex-digit-in-loop-b .ensures) (l .inv .0),
+      grown-hex (c .args .out .now) (l .out) (c .args .at) (l .end) (l .b-index) (c .args .more .now) _ _ _ (omega (arith, l .inv .1, c .pre, c .loop-b-test .taken)) (c .loop-b-test .taken) refl (c .digit-at .ensures ∙ high-digit _) (c .digit-at-in-loop-b .ensures ∙ low-digit _) (l .inv .0),
       omega (arith, l .inv .1),
     )
 
