@@ -72,16 +72,14 @@ fn list(rt: &LibcRuntime) -> Result<(), AnyError> {
 fn run(rt: &LibcRuntime) -> Result<(), AnyError> {
     let mut args = env::args(rt)?;
     let _ = args.next();
-    match args.next() {
-        None => list(rt),
-        Some(word) => {
-            if word.as_str() == "--help" {
-                rt.print(HELP)?;
-                return Ok(());
-            }
-            Err("usage: lister < STREAM (lister --help says more)".into())
-        }
+    let Some(word) = args.next() else {
+        return list(rt);
+    };
+    if word.as_str() == "--help" && args.next().is_none() {
+        rt.print(HELP)?;
+        return Ok(());
     }
+    Err("usage: lister < STREAM (lister --help says more)".into())
 }
 
 fn main(rt: LibcRuntime) -> Result<(), AnyError> {
