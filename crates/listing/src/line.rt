@@ -78,11 +78,11 @@ pub fn write_line(entry: &Entry, out: &mut [u8]) -> Result<usize, Refusal>
 pub fn write_closing(signals: u32, begun: u8, out: &mut [u8]) -> Result<usize, Refusal>
     ensures { λ r. ⌜ Put (closingOf signals begun) (now (out .entry)) r (now (out .exit)) ⌝ }
 {
-    let mut line = [0; 50];
-    let at = append(&mut line, 0, b"E ");
-    let at = append_decimal(&mut line, at, signals);
-    let at = append(&mut line, at, b" ");
-    let at = append_decimal(&mut line, at, begun as u32);
-    let size = append(&mut line, at, b"\n");
-    put(&line[0..size], out)
+    let mut closing = [0; 50];
+    let at = append(&mut closing, 0, b"E ");
+    let at = append_decimal(&mut closing, at, signals);
+    let at = append(&mut closing, at, b" ");
+    let at = append_decimal(&mut closing, at, begun as u32);
+    let size = append(&mut closing, at, b"\n");
+    put(&closing[0..size], out)
 }
