@@ -3,3 +3,11 @@
 mod frames;
 #[cfg(test)]
 mod helps;
+#[cfg(test)]
+mod houses;
+#[cfg(test)]
+mod listings;
+#[cfg(test)]
+mod modes;
+#[cfg(test)]
+mod readings;
