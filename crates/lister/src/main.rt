@@ -9,7 +9,10 @@ use std::io;
 use std::io::Read;
 use std::io::Write;
 
-const PIECE: usize = 65536;
+const INPUT: usize = 65536;
+
+// holds the lines of most pieces, so that one write does for each
+const OUTPUT: usize = 131072;
 
 const HELP: &str = "\
 usage: lister < STREAM
@@ -46,8 +49,8 @@ fn pass<W: Write>(
 
 // Moves the stream through a listing: what is read goes in, and what comes out is written.
 fn list(rt: &LibcRuntime) -> Result<(), AnyError> {
-    let mut input = vec![in rt.alloc(); 0u8; PIECE]?;
-    let mut output = vec![in rt.alloc(); 0u8; PIECE]?;
+    let mut input = vec![in rt.alloc(); 0u8; INPUT]?;
+    let mut output = vec![in rt.alloc(); 0u8; OUTPUT]?;
     let mut stdin = rt.stdin();
     let mut stdout = rt.stdout();
     let mut listing = Listing::new();

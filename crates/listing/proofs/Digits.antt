@@ -131,3 +131,10 @@ spelled-last out at n end rest place now d e S w h g ed ee =
     let G = spelled-all out at n end (rest / 10) (place - 1) (set now place (48 + rest % 10)) S′ w (omega arith) in
     subst (λ k. Grown out at (decimal n) (set (set now place d) (place - 1) k) end) (sym ee)
     (subst (λ k. Grown out at (decimal n) (set (set now place k) (place - 1) (48 + rest / 10)) end) (sym ed) G)
+
+-- the last two digits are those of the remainder by a hundred
+pub ones-of : (r : ℕ) → 48 + r % 100 % 10 ≡ 48 + r % 10
+ones-of r = omega arith
+
+pub tens-of : (r : ℕ) → 48 + r % 100 / 10 ≡ 48 + r / 10 % 10
+tens-of r = omega arith

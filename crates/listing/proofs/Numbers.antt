@@ -5,6 +5,7 @@ use mathlib.Core.List.{List, [], _∷_, _++_, map, append-assoc}
 use Prim.Native.Nat.{ℕ, zero, suc, max, _+_, _*_, _/_, _≤_, _<_}
 use native.Mathlib.Omega.{arith}
 use borrow.Author.Tests.{lt-ltb}
+use lib.Bits.{bitOr, or-add-and, and-le-l, and-le-r}
 use lib.ListN.{length, getD, take, drop, set}
 use lib.Seq.{length-take-le}
 use Rattle.std.proofs.shelf.Lists.{take-more, take-more-set, map-append}
@@ -50,6 +51,9 @@ byte-is : (l : ℕ) → l < 256 → signalOf (0 * 256 + l) ≡ Byte l
 byte-is l h =
     let n : 0 * 256 + l ≡ l = omega arith in
     ap signalOf n ∙ ap (λ b. cond b (Byte l) Pause) (lt-ltb l 256 h)
+
+pub or-none : (a b : ℕ) → bitOr a b ≡ 0 → (a ≡ 0) × (b ≡ 0)
+or-none a b e = (omega (arith, or-add-and a b, and-le-l a b, and-le-r a b), omega (arith, or-add-and a b, and-le-l a b, and-le-r a b))
 
 pub gathered-none : (numbers frame : List ℕ) → Gathered numbers 0 frame
 gathered-none numbers frame = record { fits = omega arith; bytes = refl }

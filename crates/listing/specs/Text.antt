@@ -20,6 +20,10 @@ hex (b ∷ bs) = hexDigit (b / 16) ∷ hexDigit (b % 16) ∷ hex bs
 abbrev pub digitOf : ℕ → ℕ
 digitOf index = cond (eqb (index % 2) 0) (hexDigit (index / 2 / 16)) (hexDigit (index / 2 % 16))
 
+-- the digits of all numbers below a hundred in a row: two to a number, from 00 on
+abbrev pub decimalOf : ℕ → ℕ
+decimalOf index = 48 + cond (eqb (index % 2) 0) (index / 2 / 10) (index / 2 % 10)
+
 -- `more` was written into a buffer from `at` on: it stands behind what was before it, and the rest is as it was
 pub record Grown (before : List ℕ) (at : ℕ) (more after : List ℕ) (end : ℕ) : Type 0 where
   pub ends : end ≡ at + length more

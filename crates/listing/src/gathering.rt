@@ -29,12 +29,11 @@ pub(crate) fn gather(numbers: &[u8], frame: &mut [u8]) -> usize
 fn copy_low(numbers: &[u8], size: usize, frame: &mut [u8]) -> bool
     requires numbers { ⌜ 2 * size ≤ length (now numbers) ⌝ }
     requires frame { ⌜ size ≤ length (now frame) ⌝ }
-    requires few { ⌜ size ≤ 256 ⌝ }
     ensures { λ r. ⌜ (r ≡ true → Gathered (now (numbers .entry)) size (now (frame .exit))) ⌝ }
 {
-    let mut highs = 0u32;
+    let mut highs = 0u8;
     for i in 0..size {
-        highs += numbers[2 * i] as u32;
+        highs |= numbers[2 * i];
         frame[i] = numbers[2 * i + 1];
     }
     highs == 0

@@ -4,7 +4,7 @@ ghost use mathlib.Core.List.{List};
 ghost use Prim.Native.Nat.{ℕ, _+_, _*_, _^_, _≤_, _<_};
 ghost use lib.ListN.{length};
 ghost use Rattle.std.specs.Written.{decimal};
-ghost use Rattle.listing.specs.Text.{hex, digitOf, Grown, Spelled};
+ghost use Rattle.listing.specs.Text.{hex, decimalOf, digitOf, Grown, Spelled};
 
 // The capital hexadecimal digits of every byte, two and two.
 const DIGITS: [u8; 512] = *b"\
@@ -16,6 +16,14 @@ const DIGITS: [u8; 512] = *b"\
     A0A1A2A3A4A5A6A7A8A9AAABACADAEAFB0B1B2B3B4B5B6B7B8B9BABBBCBDBEBF\
     C0C1C2C3C4C5C6C7C8C9CACBCCCDCECFD0D1D2D3D4D5D6D7D8D9DADBDCDDDEDF\
     E0E1E2E3E4E5E6E7E8E9EAEBECEDEEEFF0F1F2F3F4F5F6F7F8F9FAFBFCFDFEFF";
+
+// The decimal digits of every number below a hundred, two and two.
+const DECIMALS: [u8; 200] = *b"\
+    0001020304050607080910111213141516171819\
+    2021222324252627282930313233343536373839\
+    4041424344454647484950515253545556575859\
+    6061626364656667686970717273747576777879\
+    8081828384858687888990919293949596979899";
 
 pub(crate) fn append(out: &mut [u8], at: usize, more: &[u8]) -> usize
     requires { ⌜ at + length (now more) ≤ length (now out) ⌝ }
@@ -46,6 +54,14 @@ fn digit_count(n: u32) -> usize
     }
 }
 
+// The digit at an index of the table.
+fn decimal_at(index: usize) -> u8
+    requires { ⌜ index < 200 ⌝ }
+    ensures { λ r. ⌜ r ≡ decimalOf index ⌝ }
+{
+    DECIMALS[index]
+}
+
 // What is left to be written of a number's digits, and the place of the last of them.
 struct Left {
     rest: u32,
@@ -64,9 +80,9 @@ fn spell_pairs(out: &mut [u8], place: usize, n: u32) -> Left
     let mut rest = n;
     let mut place = place;
     while rest >= 100 {
-        let pair = rest % 100;
-        out[place] = b'0' + (pair % 10) as u8;
-        out[place - 1] = b'0' + (pair / 10) as u8;
+        let index = 2 * (rest % 100) as usize;
+        out[place] = decimal_at(index + 1);
+        out[place - 1] = decimal_at(index);
         rest /= 100;
         place -= 2;
     }
