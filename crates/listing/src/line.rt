@@ -69,7 +69,7 @@ pub(crate) fn compose(entry: &Entry, out: &mut [u8]) -> usize
 pub fn write_line(entry: &Entry, out: &mut [u8]) -> Result<usize, Refusal>
     ensures { λ r. ⌜ Put (lineOf (now (entry .entry))) (now (out .entry)) r (now (out .exit)) ⌝ }
 {
-    let mut line = [0; 50];
+    let mut line = [0; LINE];
     let size = compose(entry, &mut line);
     put(&line[0..size], out)
 }
@@ -78,7 +78,7 @@ pub fn write_line(entry: &Entry, out: &mut [u8]) -> Result<usize, Refusal>
 pub fn write_closing(signals: u32, begun: u8, out: &mut [u8]) -> Result<usize, Refusal>
     ensures { λ r. ⌜ Put (closingOf signals begun) (now (out .entry)) r (now (out .exit)) ⌝ }
 {
-    let mut closing = [0; 50];
+    let mut closing = [0; LINE];
     let at = append(&mut closing, 0, b"E ");
     let at = append_decimal(&mut closing, at, signals);
     let at = append(&mut closing, at, b" ");
