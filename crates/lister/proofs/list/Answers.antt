@@ -2,7 +2,7 @@ use Rattle.std.proofs.Common.{◌≡◌, ◌≤◌, length, rules}
 use Rattle.refusal.proofs.Puts.{put_within}
 use Rattle.lister.proofs.list.Goals as goal
 
-pub slice-bounds-write-all-end : goal.slice-bounds-write-all-end
-slice-bounds-write-all-end c =
+pub slice_bounds-write_all-end : goal.slice_bounds-write_all-end
+slice_bounds-write_all-end c =
     let h = put_within _ _ _ _ c.in-Ok.ensures.puts in
     search rules

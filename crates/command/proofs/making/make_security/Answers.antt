@@ -10,8 +10,8 @@ returns-then-contact-ne0 c =
     let t : (eqb r.strength 0 && eqb r.battery 0) ≡ false = grind (arith, nat_tests) in
     sym (security_asked c.args.sub c.args.data.now r c.in-Ok.ensures ∙ tailed r t)
 
-pub returns-then-not-may-send : goal.returns-then-not-may-send
-returns-then-not-may-send c =
+pub returns-then-not-may_send : goal.returns-then-not-may_send
+returns-then-not-may_send c =
     let r = c.in-Ok.contact in
     let no : may_send r.subtype r.status ≡ false = cc in
     sym (security_asked c.args.sub c.args.data.now r c.in-Ok.ensures ∙ unsendable r no)
@@ -19,7 +19,7 @@ returns-then-not-may-send c =
 pub returns-in-Err : goal.returns-in-Err
 returns-in-Err c = let e = security_refused c.args.sub c.args.data.now c.in-Err.field-0 c.in-Err.ensures in cc
 
-pub returns-else-not-may-send : goal.returns-else-not-may-send
-returns-else-not-may-send c =
+pub returns-else-not-may_send : goal.returns-else-not-may_send
+returns-else-not-may_send c =
     let e = security_asked c.args.sub c.args.data.now c.in-Ok.contact c.in-Ok.ensures in
     grind (arith, nat_tests, e)

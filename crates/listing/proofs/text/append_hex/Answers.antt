@@ -7,7 +7,7 @@ use Rattle.listing.proofs.text.append_hex.Goals as goal
 pub loop-b-preserved : goal.loop-b-preserved
 loop-b-preserved c =
     let l = c.loop-b in (
-      grown_hex c.args.out.now l.out c.args.at l.end l.b-index c.args.more.now _ _ _ (omega (arith, l.invariant.1, c.requires, c.loop-b-test.true)) c.loop-b-test.true refl (c.digit-at.ensures ∙ high_digit _) (c.digit-at-in-loop-b.ensures ∙ low_digit _) l.invariant.0,
+      grown_hex c.args.out.now l.out c.args.at l.end l.b-index c.args.more.now _ _ _ (omega (arith, l.invariant.1, c.requires, c.loop-b-test.true)) c.loop-b-test.true refl (c.digit_at.ensures ∙ high_digit _) (c.digit_at-in-loop-b.ensures ∙ low_digit _) l.invariant.0,
       omega (arith, l.invariant.1),
     )
 

@@ -29,5 +29,5 @@ returns-in-10000000-to-99999999 c = record { count = sym (digits_are 7 c.args.n 
 pub returns-in-100000000-to-999999999 : goal.returns-in-100000000-to-999999999
 returns-in-100000000-to-999999999 c = record { count = sym (digits_are 8 c.args.n (omega arith) (omega arith) c.ranges.n.fits); some = omega arith; few = omega arith }
 
-pub returns-in-default : goal.returns-in-default
-returns-in-default c = record { count = sym (digits_are 9 c.args.n (omega arith) (omega (arith, c.ranges.n.fits)) c.ranges.n.fits); some = omega arith; few = omega arith }
+pub returns-in_default : goal.returns-in_default
+returns-in_default c = record { count = sym (digits_are 9 c.args.n (omega arith) (omega (arith, c.ranges.n.fits)) c.ranges.n.fits); some = omega arith; few = omega arith }

@@ -5,14 +5,14 @@ use Rattle.record.specs.Frames.{verdict_of, verdict_whole}
 use Rattle.record.proofs.One.{reads_back, writes_back}
 use Rattle.record.proofs.judging.judge.Goals as goal
 
-pub judge-whole-requires : goal.judge-whole-requires
-judge-whole-requires c = front_is_whole c.args.bytes.now c.in-Ok.frame.now c.in-Ok.ensures
+pub judge_whole-requires : goal.judge_whole-requires
+judge_whole-requires c = front_is_whole c.args.bytes.now c.in-Ok.frame.now c.in-Ok.ensures
 
 pub returns-in-Ok : goal.returns-in-Ok
 returns-in-Ok c =
     let xs = c.args.bytes.now in
-    let r = c.judge-whole.result in
-    let v = c.judge-whole.ensures ∙ ap (λ f. then_by f verdict_whole) c.in-Ok.ensures in
+    let r = c.judge_whole.result in
+    let v = c.judge_whole.ensures ∙ ap (λ f. then_by f verdict_whole) c.in-Ok.ensures in
     record {
       verdict = v;
       reads_back = λ p e. reads_back r p (v ∙ ap verdict_of e);

@@ -15,6 +15,6 @@ returns c =
     record {
       closes = λ input es q begun L R.
           let held = ap length (reads_one R L.follows.reads).begun ∙ length-take-le x.held x.begun x.sized in
-          restated _ _ _ _ (c.signals.ensures ∙ sym L.follows.count) (c.begun.ensures ∙ sym held) c.write-closing.ensures;
-      puts = restated _ _ _ _ c.signals.ensures c.begun.ensures c.write-closing.ensures;
+          restated _ _ _ _ (c.signals.ensures ∙ sym L.follows.count) (c.begun.ensures ∙ sym held) c.write_closing.ensures;
+      puts = restated _ _ _ _ c.signals.ensures c.begun.ensures c.write_closing.ensures;
     }
