@@ -1,4 +1,6 @@
 // What may be sent: commands with their frames, and the two fixed packets of the start-up (docs/COMMANDS.md).
+#![tactic(auto)]
+
 pub mod commands;
 pub mod laws;
 pub mod making;

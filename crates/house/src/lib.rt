@@ -1,4 +1,6 @@
 // House records: a packet of any kind as a map and the fields that the map names (docs/HOUSE.md).
+#![tactic(auto)]
+
 pub mod laws;
 pub mod maps;
 pub mod writing;

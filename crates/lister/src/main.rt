@@ -1,4 +1,6 @@
 // Lists a stream of signal numbers from standard input (docs/LISTER.md).
+#![tactic(auto)]
+
 ghost use Rattle.std.specs.Prelude.{◌≤◌, length};
 
 use anyhow::anyhow;

@@ -1,3 +1,5 @@
 // House records back: the packet of a stored house record, and its frame (docs/HOUSE.md).
+#![tactic(auto)]
+
 pub mod laws;
 pub mod reading;

@@ -1,4 +1,6 @@
 // Trials: the examples and the limits of the rules in docs/, run through the libraries. There is nothing here to call.
+#![tactic(auto)]
+
 #[cfg(test)]
 mod commands;
 #[cfg(test)]

@@ -1,5 +1,6 @@
 // Runs worked examples and cases at the limits through the library, and prints a line to each: what was tried, and what came
 // out. What it is to print stands in the file `stdout` beside `src`.
+#![tactic(auto)]
 
 mod commands;
 mod frames;

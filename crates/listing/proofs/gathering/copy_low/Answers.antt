@@ -9,7 +9,7 @@ loop-i-init c = λ e. gathered_none _ _
 pub loop-i-preserved : goal.loop-i-preserved
 loop-i-preserved c = λ e.
     let none = or_none c.loop-i.highs (get_or c.args.numbers.now (2 * c.loop-i.i) 0) e in
-    gathered_more c.args.numbers.now c.loop-i.frame c.loop-i.i (omega arith) (omega arith) none.1 (omega (arith, c.type-inv.numbers (2 * c.loop-i.i + 1))) (c.loop-i.invariant none.0)
+    gathered_more c.args.numbers.now c.loop-i.frame c.loop-i.i (omega arith) (omega arith) none.1 (omega (arith, c.type_inv.numbers (2 * c.loop-i.i + 1))) (c.loop-i.invariant none.0)
 
 pub returns : goal.returns
 returns c = λ e.

@@ -23,7 +23,7 @@ returns-then-from_be_bytes-map_of c =
 pub returns : goal.returns
 returns c =
     let xs = c.args.house.now in
-    let t = c.type-inv.house in
+    let t = c.type_inv.house in
     let bytes : Bytes xs = λ i. omega (arith, t i) in
     let long : 5 ≤ length xs = grind (arith, nat_tests) in
     let map : at16 xs 0 ≡ map_by (at8 xs 2) = cc in

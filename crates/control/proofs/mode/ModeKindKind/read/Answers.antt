@@ -12,5 +12,5 @@ returns-in-Ok c =
     let ok = c.in-Ok.ensures in
     let e = spelled 10 0 xs (size_of mode s xs ok) in
     let v = verdict_passed mode s xs ok in
-    let t = c.type-inv.data in
+    let t = c.type_inv.data in
     said_of mode s xs ok _ _ (grind (arith, nat_tests, v)) (grind (arith, nat_tests, e, v, t 0, t 1, t 2, t 3, t 4, t 5, t 6, t 7, t 8, t 9))

@@ -12,5 +12,5 @@ returns-in-Ok c =
     let ok = c.in-Ok.ensures in
     let e = spelled 1 0 xs (size_of transmitter s xs ok) in
     let v = verdict_passed transmitter s xs ok in
-    let t = c.type-inv.data in
+    let t = c.type_inv.data in
     said_of transmitter s xs ok _ _ refl (grind (arith, nat_tests, e, v, t 0))

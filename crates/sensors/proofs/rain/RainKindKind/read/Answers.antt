@@ -12,5 +12,5 @@ returns-in-Ok c =
     let ok = c.in-Ok.ensures in
     let e = spelled 8 0 xs (size_of rain s xs ok) in
     let v = verdict_passed rain s xs ok in
-    let t = c.type-inv.data in
+    let t = c.type_inv.data in
     said_of rain s xs ok _ _ refl (grind (arith, nat_tests, e, v, t 0, t 1, t 2, t 3, t 4, t 5, t 6, t 7))
