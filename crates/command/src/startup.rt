@@ -32,10 +32,10 @@ impl Startup {
     pub fn recognise(bytes: &[u8]) -> Option<Startup>
         ensures { Recognised bytes.now result }
     {
-        if bytes == &RESET {
+        if bytes == RESET.as_slice() {
             return Some(Startup::Reset);
         }
-        if bytes == &GET_STATUS {
+        if bytes == GET_STATUS.as_slice() {
             return Some(Startup::GetStatus);
         }
         None
