@@ -1,4 +1,3 @@
 pub mod Taken
 pub mod Asked
 pub mod One
-pub mod Packets
