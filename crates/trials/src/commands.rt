@@ -110,7 +110,7 @@ fn limits(rt: HostRuntime) -> Result<(), Fail> {
             Ok(command) => {
                 assert_eq!(rt; command.size(), frame.len());
                 assert_eq!(rt; command.type_number(), kind);
-                written(&rt, rt.alloc(), &Sent { command, seq: 7 }, &frame).note(data)?;
+                written(&rt, rt.alloc(), &Sent { command, seq: 7 }, &frame)?;
             }
         }
     }

@@ -74,14 +74,14 @@ fn written_in<W: Writes>(
     let mut out = old.clone()?;
     match what.write(&mut out) {
         Ok(size) => {
-            assert_eq!(rt; size, text.len());
-            assert_eq!(rt; out, changed(heap, &old, 0, text)?);
+            assert_eq!(rt; size, text.len(), "a buffer of {room}");
+            assert_eq!(rt; out, changed(heap, &old, 0, text)?, "a buffer of {room}");
             Ok(())
         }
         Err(refusal) => {
-            assert_eq!(rt; refusal.number(), 16);
-            assert!(rt; room < text.len());
-            assert_eq!(rt; out, old);
+            assert_eq!(rt; refusal.number(), 16, "a buffer of {room}");
+            assert!(rt; room < text.len(), "a buffer of {room}");
+            assert_eq!(rt; out, old, "a buffer of {room}");
             Ok(())
         }
     }
@@ -96,7 +96,7 @@ pub fn written<W: Writes>(
     text: &[u8],
 ) -> Result<(), Fail> {
     for room in 0..text.len().saturating_add(4) {
-        written_in(rt, heap, what, text, room).note(format_args!("a buffer of {room}"))?;
+        written_in(rt, heap, what, text, room)?;
     }
     Ok(())
 }

@@ -163,52 +163,48 @@ impl Writes for Turned {
     }
 }
 
-fn read_as(rt: &impl Abort, house: &[u8], packet: Packet<Record>) -> Result<(), Fail> {
-    match read_house(house) {
-        Err(_) => Err(Fail::new("no house record")),
-        Ok(again) => {
-            assert!(rt; again == packet);
-            Ok(())
-        },
-    }
-}
-
-fn there_and_back(rt: &impl Abort, heap: Global, frame: &str, house: &str) -> Result<(), Fail> {
-    let frame = bytes(rt, heap, frame)?;
-    let house = bytes(rt, heap, house)?;
-    match judge(&frame) {
-        Err(_) => Err(Fail::new("no record")),
-        Ok(packet) => {
-            written(rt, heap, &House { packet }, &house)?;
-            read_as(rt, &house, packet)?;
-            written(rt, heap, &Turned { house }, &frame)
-        }
-    }
+fn there_and_back(
+    rt: &impl Abort,
+    heap: Global,
+    frame: &'static str,
+    house: &'static str,
+) -> Result<(), Fail> {
+    let sent = bytes(rt, heap, frame)?;
+    let stored = bytes(rt, heap, house)?;
+    let Ok(packet) = judge(&sent) else {
+        return Err(Fail::new(frame));
+    };
+    written(rt, heap, &House { packet }, &stored)?;
+    let Ok(again) = read_house(&stored) else {
+        return Err(Fail::new(house));
+    };
+    assert!(rt; again == packet, "{}", house);
+    written(rt, heap, &Turned { house: stored }, &sent)
 }
 
 #[test]
 fn examples(rt: HostRuntime) -> Result<(), Fail> {
     for &(frame, house) in &PAIRS {
-        there_and_back(&rt, rt.alloc(), frame, house).note(frame)?;
+        there_and_back(&rt, rt.alloc(), frame, house)?;
     }
     Ok(())
 }
 
 // Refused as no house record, also where there is no place for a frame, and nothing is written.
-fn refused(rt: &impl Abort, heap: Global, house: &str) -> Result<(), Fail> {
+fn refused(rt: &impl Abort, heap: Global, why: &'static str, house: &str) -> Result<(), Fail> {
     let house = bytes(rt, heap, house)?;
     match read_house(&house) {
-        Ok(_) => return Err(Fail::new("read")),
-        Err(refusal) => assert_eq!(rt; refusal.number(), 17),
+        Ok(_) => return Err(Fail::new(why)),
+        Err(refusal) => assert_eq!(rt; refusal.number(), 17, "{}", why),
     }
     for room in 0..16 {
         let old = vec![in heap; 0xA5; room]?;
         let mut out = old.clone()?;
         match house_to_frame(&house, &mut out) {
-            Ok(_) => return Err(Fail::new("written")),
-            Err(refusal) => assert_eq!(rt; refusal.number(), 17),
+            Ok(_) => return Err(Fail::new(why)),
+            Err(refusal) => assert_eq!(rt; refusal.number(), 17, "{}", why),
         }
-        assert_eq!(rt; out, old);
+        assert_eq!(rt; out, old, "{}", why);
     }
     Ok(())
 }
@@ -216,7 +212,7 @@ fn refused(rt: &impl Abort, heap: Global, house: &str) -> Result<(), Fail> {
 #[test]
 fn refusals(rt: HostRuntime) -> Result<(), Fail> {
     for &(why, house) in &WRONG {
-        refused(&rt, rt.alloc(), house).note(why)?;
+        refused(&rt, rt.alloc(), why, house)?;
     }
     Ok(())
 }
