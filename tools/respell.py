@@ -4,7 +4,8 @@
 usage: python3 tools/respell.py [--dry]     at the top, once, after the toolchain's port.py
 
 Definitions and lemmas go to snake case and facts to camel case, in the proof language's files, in the clauses of the code
-and, between back quotes, in README and docs/. Names of functions, strings, inputs and outputs stay as they are.
+and, between back quotes, in README and docs/. Names of functions, strings of the code, inputs, outputs and must-fail edits stay
+as they are.
 """
 
 import os
@@ -79,7 +80,7 @@ def owned(root):
 
 
 def turned(text, renames, fields, code):
-    """One line with the names renamed. In code, strings and the words of comments stay."""
+    """One line with the names renamed. In code, strings and the hyphenated words of comments stay."""
     out, at, quoted = [], 0, False
     is_use = re.match(r"\s*(?:ghost )?use ", text)
     comment = text.find("//") if code else text.find("-- ")

@@ -1,5 +1,5 @@
 -- Commands and what may be sent are one to one, and so are commands with numbers and their frames.
-use Rattle.std.proofs.Common.{◌≡◌, ℕ, ◌+◌, ◌*◌, ◌<◌, Bool, true, false, cond, ◌&&◌, eqb, List, [], ◌∷◌, length, get_or, drop, is_ok, Ok, Err, Result, sym, refl, ap, ◌∙◌, subst, inl, inr, arith}
+use Rattle.std.proofs.Common.{◌≡◌, ℕ, ◌<◌, Bool, true, false, cond, ◌&&◌, eqb, List, ◌∷◌, length, get_or, drop, is_ok, Ok, Err, Result, sym, refl, ap, ◌∙◌, inl, inr, arith}
 use mathlib.Core.HLevel.{is_prop→PathP}
 use mathlib.Core.Bool.{Bool-set}
 use Rattle.std.proofs.lemmas.Bool.Decides.{nat_tests, eqb_tells}
@@ -22,7 +22,7 @@ use Rattle.command.specs.declared.orders.Order.TheVariants.{Mode, Blinds, Securi
 use Rattle.command.specs.declared.commands.Command.{Command}
 use Rattle.command.specs.Sendable.{passes, sendable, may_send}
 use Rattle.command.specs.Orders.{may_send_order}
-use Rattle.command.specs.Commands.{asked, told, spelled_by, spelling, framed_by, frame_of}
+use Rattle.command.specs.Commands.{asked, told, spelled_by, spelling, framed_by}
 use Rattle.command.specs.Laws.{EachCommandMayBeSent, NoTwoCommandsAreSpelledAlike, WhatMayBeSentIsSomeCommand, judged_by, EachFramePassesItsCheck, NoTwoFramesAreAlike}
 use Rattle.command.proofs.Asked.{no_tail, no_kind}
 

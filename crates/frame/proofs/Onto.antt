@@ -1,14 +1,13 @@
 -- An accepted frame is a packet's.
-use Rattle.std.proofs.Common.{◌≡◌, ℕ, ◌+◌, ◌-◌, ◌<◌, ◌≤◌, List, [], ◌∷◌, length, get_or, take, drop, Ok, Err, Result, sym, refl, ap, ◌∙◌, subst, arith, length-drop, length-take, get_or-drop, get_or-take}
+use Rattle.std.proofs.Common.{◌≡◌, ℕ, ◌+◌, ◌<◌, ◌≤◌, List, ◌∷◌, length, get_or, take, drop, Ok, sym, ap, ◌∙◌, subst, arith, length-drop, length-take, get_or-drop, get_or-take}
 use native.Mathlib.Decide.{dec_lt}
 use Rattle.std.proofs.lemmas.List.{drop_more, get_or_past}
 use Rattle.std.proofs.lemmas.Bool.Decides.{nat_tests}
-use Rattle.frame.specs.declared.faults.Fault.{Fault}
 use Rattle.frame.specs.declared.packet.Packet.{Packet}
 use Rattle.frame.specs.Faults.{passed}
 use Rattle.frame.specs.Fields.{Bytes}
 use Rattle.frame.specs.Model.{Model, Law}
-use Rattle.frame.specs.Frames.{Whole, front_of, written, judged_whole, packet}
+use Rattle.frame.specs.Frames.{Whole, written, judged_whole, packet}
 
 pub bytes_take : (n : ℕ) (xs : List ℕ) → Bytes xs → Bytes (take n xs)
 bytes_take n xs b i =

@@ -1,5 +1,5 @@
 -- Fields of several bytes, the high byte first, and numbers with a sign (docs/PACKETS.md).
-use Rattle.std.specs.Prelude.{ℕ, suc, ◌+◌, ◌-◌, ◌*◌, ◌/◌, ◌%◌, ◌<◌, Bool, cond, ◌&&◌, List, ℤ, pos, negsuc, neg_ℤ, nat_le, nat_lt, slice_index}
+use Rattle.std.specs.Prelude.{ℕ, suc, ◌+◌, ◌-◌, ◌*◌, ◌/◌, ◌<◌, Bool, cond, ◌&&◌, List, ℤ, pos, negsuc, neg_ℤ, nat_le, nat_lt, slice_index}
 
 -- every element is a byte
 abbrev pub Bytes : List ℕ → Type 0
@@ -25,7 +25,7 @@ in_range lo x hi = nat_le lo x && nat_le x hi
 abbrev pub signed : ℕ → ℕ → ℤ
 signed hi lo = cond (nat_lt hi 128) (pos (hi * 256 + lo)) (neg_ℤ (pos ((hi - 128) * 256 + lo)))
 
--- the high byte of an integer so written; the low byte is natAbs z % 256
+-- the high byte of an integer so written; the low byte is unsigned_abs z % 256
 abbrev pub high_byte_of : ℤ → ℕ
 high_byte_of (pos n) = n / 256
 high_byte_of (negsuc n) = 128 + suc n / 256

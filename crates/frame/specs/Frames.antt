@@ -1,5 +1,5 @@
 -- Frames of a kind: what a frame is read as, and how a packet is written (docs/FRAME.md).
-use Rattle.std.specs.Prelude.{◌≡◌, ℕ, ◌+◌, Bool, cond, List, [], ◌∷◌, length, take, drop, Ok, Err, Result, ◌==◌, nat_le, nat_lt, slice_index}
+use Rattle.std.specs.Prelude.{◌≡◌, ℕ, ◌+◌, cond, List, ◌∷◌, length, take, drop, Ok, Err, Result, ◌==◌, nat_le, nat_lt, slice_index}
 use Rattle.frame.specs.Faults.{unless, after}
 use Rattle.frame.specs.Model.{Model}
 use Rattle.frame.specs.declared.faults.Fault.{Fault}

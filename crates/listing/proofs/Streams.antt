@@ -1,5 +1,5 @@
 -- Streams that grow by a byte, and what a listing of them becomes.
-use Rattle.std.proofs.Common.{◌≡◌, ℕ, zero, suc, ◌+◌, ◌-◌, ◌*◌, ◌/◌, ◌<◌, ◌≤◌, Bool, true, false, cond, ltb, List, [], ◌∷◌, ◌++◌, length, get_or, take, drop, Some, None, Option, sym, refl, ap, ◌∙◌, subst, append_assoc, append-nil, arith, length-append, length-drop, take-append-drop, length-take, length-take-le, take_all, take-take, drop-drop, take-add, le-ltb, lt-ltb, eq-eqb, ne_eqb}
+use Rattle.std.proofs.Common.{◌≡◌, ℕ, zero, suc, ◌+◌, ◌-◌, ◌*◌, ◌/◌, ◌<◌, ◌≤◌, true, false, cond, ltb, List, [], ◌∷◌, ◌++◌, length, get_or, take, drop, Some, None, sym, refl, ap, ◌∙◌, subst, append_assoc, append-nil, arith, length-append, length-drop, take-append-drop, length-take-le, take_all, drop-drop, take-add, le-ltb, lt-ltb, eq-eqb, ne_eqb}
 use mathlib.Core.List.{append_cancel_left}
 use native.Mathlib.Decide.{dec_lt}
 use borrow.Rule.Slice.PartMut.{put_mid}
@@ -19,7 +19,7 @@ use Rattle.listing.proofs.Texts.{length_kept}
 use Rattle.listing.specs.declared.listing.Listing.{Listing}
 use Rattle.listing.specs.declared.listing.Fed.{Fed}
 use Rattle.listing.specs.Lines.{lines, line_of}
-use Rattle.listing.specs.Listing.{signals, odd, tape_of, over_of, Listens, FedOn, WentOn, Stops}
+use Rattle.listing.specs.Listing.{signals, odd, tape_of, Listens, FedOn, WentOn}
 use Rattle.listing.specs.Steps.{Stepped, Took}
 
 -- a byte that begins a signal number

@@ -1,12 +1,11 @@
 -- The laws of the listing.
-use Rattle.std.proofs.Common.{◌≡◌, ℕ, cond, List, [], ◌∷◌, ◌++◌, length, take, drop, Ok, Err, sym, refl, ap, ◌∙◌, subst, lit<}
+use Rattle.std.proofs.Common.{◌≡◌, ℕ, cond, List, [], ◌∷◌, ◌++◌, length, take, drop, Ok, Err, sym, refl, ap, ◌∙◌, lit<}
 use Rattle.std.proofs.lemmas.Fmt.{decimal_digit}
 use Rattle.std.proofs.lemmas.List.{take_at}
-use Rattle.frame.specs.declared.faults.Fault.TheVariants.{NoPayload, Cut}
+use Rattle.frame.specs.declared.faults.Fault.TheVariants.{NoPayload}
 use Rattle.frame.specs.Frames.{packet}
 use Rattle.record.specs.declared.records.Record.TheVariants.{Transmitter}
 use Rattle.tape.specs.declared.signals.Entry.{Entry}
-use Rattle.tape.specs.Reading.{Reads}
 use Rattle.tape.specs.Reading.Parts.{none, remnant, frame}
 use Rattle.tape.specs.Reading.Reads.{last, stretch}
 use Rattle.tape.proofs.Theorems.{one_reading}
@@ -16,7 +15,7 @@ use Rattle.listing.specs.Lines.{lines, closing_of}
 use Rattle.listing.specs.Listing.{tape_of, over_of, Listens}
 use Rattle.listing.specs.Laws.{Lists, EachStreamHasOneListing, Went, PiecesDoNotMatter}
 use Rattle.listing.specs.Laws.Went.{begins, goes_on}
-use Rattle.listing.specs.Known.{Known, example}
+use Rattle.listing.specs.Known.{Known}
 use Rattle.listing.proofs.Streams.{tape_bytes, lines_append}
 
 lists_some : (input : List ℕ) → (text : List ℕ) × Lists input text

@@ -1,17 +1,15 @@
 -- Worked examples, each over the definitions that the contracts cite (docs/PACKETS.md, docs/FAULTS.md, docs/LISTER.md).
-use Rattle.std.specs.Prelude.{◌≡◌, ℕ, List, [], ◌∷◌, ◌++◌, pos, Ok, Err, codes, Result, refl}
+use Rattle.std.specs.Prelude.{◌≡◌, ℕ, List, [], ◌∷◌, ◌++◌, pos, Ok, Err, codes, refl}
 use Rattle.frame.specs.Faults.{cause_of, offset_of}
 use Rattle.frame.specs.Frames.{packet, written, judged}
-use Rattle.frame.specs.declared.faults.Fault.{Fault}
 use Rattle.frame.specs.declared.faults.Fault.TheVariants.{NoPayload, Cut, UnknownType}
 use Rattle.frame.specs.declared.packet.Packet.{Packet}
 use Rattle.control.specs.Mode.{mode}
 use Rattle.record.specs.Frames.{frame_of, verdict_of}
 use Rattle.record.specs.declared.records.Record.{Record}
-use Rattle.record.specs.declared.records.Record.TheVariants.{Transmitter, Blinds, Security, Climate, Rain, Meter}
+use Rattle.record.specs.declared.records.Record.TheVariants.{Blinds, Security, Climate, Rain, Meter}
 use Rattle.house.specs.House.{house_of}
 use Rattle.tape.specs.declared.signals.Signal.TheVariants.{Byte, Pause}
-use Rattle.tape.specs.declared.signals.Entry.{Entry}
 use Rattle.tape.specs.Reading.{Reads}
 use Rattle.listing.specs.Lines.{newline}
 use Rattle.listing.specs.Laws.{Lists}

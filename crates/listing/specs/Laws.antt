@@ -1,5 +1,5 @@
 -- Laws of the listing, and the worked examples (docs/LISTER.md).
-use Rattle.std.specs.Prelude.{◌≡◌, ℕ, Bool, false, cond, List, [], ◌∷◌, ◌++◌, length, take, refl}
+use Rattle.std.specs.Prelude.{◌≡◌, ℕ, cond, List, [], ◌++◌, length, take}
 use Rattle.tape.specs.declared.signals.Entry.{Entry}
 use Rattle.tape.specs.Reading.{Reads}
 use Rattle.listing.specs.declared.listing.Listing.{Listing}

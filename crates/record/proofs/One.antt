@@ -1,11 +1,11 @@
 -- Packets and accepted frames are one to one.
-use Rattle.std.proofs.Common.{◌≡◌, ℕ, ◌+◌, ◌<◌, ◌≤◌, ◌⊎◌, List, length, get_or, take, Ok, Err, Result, sym, refl, ap, ◌∙◌, subst, inl, inr, arith}
+use Rattle.std.proofs.Common.{◌≡◌, ℕ, ◌+◌, List, length, get_or, take, Ok, Err, Result, sym, refl, ap, ◌∙◌, subst, inl, inr, arith}
 use native.Mathlib.Decide.{dec_le, dec_lt}
 use Rattle.std.proofs.lemmas.Bool.Decides.{nat_tests}
 use Rattle.frame.specs.Fields.{Bytes}
-use Rattle.frame.specs.Frames.{Whole, front_of, then_by, judged, judged_whole, written, packet}
+use Rattle.frame.specs.Frames.{Whole, front_of, then_by, judged_whole, written, packet}
 use Rattle.frame.specs.declared.faults.Fault.{Fault}
-use Rattle.frame.specs.declared.faults.Fault.TheVariants.{NoPayload, Cut, UnknownType}
+use Rattle.frame.specs.declared.faults.Fault.TheVariants.{NoPayload, Cut}
 use Rattle.frame.specs.declared.packet.Packet.{Packet}
 use Rattle.frame.proofs.Whole.{front_whole, front_is_whole, judged_whole_lem, written_whole, written_passes, written_one}
 use Rattle.frame.proofs.Onto.{bytes_take, onto_whole}

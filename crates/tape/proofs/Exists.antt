@@ -1,5 +1,5 @@
 -- Each tape has a reading.
-use Rattle.std.proofs.Common.{◌≡◌, ℕ, zero, suc, ◌+◌, ◌<◌, List, [], ◌∷◌, ◌++◌, length, get_or, Result, sym, refl, ap, ◌∙◌, subst, inl, inr, append_assoc, append-nil, arith}
+use Rattle.std.proofs.Common.{ℕ, zero, suc, ◌+◌, ◌<◌, List, [], ◌∷◌, ◌++◌, length, sym, refl, subst, inl, inr, append_assoc, append-nil, arith}
 use lib.Seq.{append_snoc}
 use Rattle.frame.specs.Fields.{Bytes}
 use Rattle.record.proofs.One.{judged_some}

@@ -1,5 +1,5 @@
 -- What each kind of step does to the reading.
-use Rattle.std.proofs.Common.{◌≡◌, ℕ, suc, ◌+◌, ◌<◌, ◌≤◌, Bool, true, false, cond, List, [], ◌∷◌, ◌++◌, map, length, get_or, take, set, Err, sym, refl, ap, ◌∙◌, subst, append-nil, arith, length-append, length-take-le, get_or-take, eq-eqb, ne_eqb}
+use Rattle.std.proofs.Common.{◌≡◌, ℕ, suc, ◌+◌, ◌<◌, ◌≤◌, true, false, cond, List, [], ◌∷◌, ◌++◌, map, length, get_or, take, set, Err, sym, refl, ap, ◌∙◌, subst, append-nil, arith, length-append, length-take-le, get_or-take, eq-eqb, ne_eqb}
 use Rattle.std.proofs.lemmas.List.{take_more_set, length_push, length-map}
 use Rattle.frame.specs.declared.faults.Fault.TheVariants.{Cut}
 use Rattle.record.specs.Frames.{verdict_of, told}
@@ -9,7 +9,7 @@ use Rattle.tape.specs.declared.signals.Entry.{Entry}
 use Rattle.tape.specs.declared.signals.Step.{Step}
 use Rattle.tape.specs.declared.signals.Step.TheVariants.{Quiet, Read, Full}
 use Rattle.tape.specs.Reading.{Tells, cut, Reads}
-use Rattle.tape.specs.Follow.{limit, full, heard, gained, is_full, Held, Follows, Took}
+use Rattle.tape.specs.Follow.{limit, full, gained, is_full, Held, Follows, Took}
 use Rattle.tape.proofs.Grow.{len_byte, held, grow_more, grow_full, grow_pause, grow_frame, retold, reads_none}
 
 -- a reading, its place and its frame begun written another way

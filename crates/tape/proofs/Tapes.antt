@@ -1,12 +1,10 @@
 -- Each tape reader is the reader of some tape, so that its contracts are never empty.
-use Rattle.std.proofs.Common.{◌≡◌, ℕ, zero, suc, ◌+◌, ◌-◌, ◌<◌, ◌≤◌, List, [], ◌∷◌, ◌++◌, map, length, get_or, take, sym, refl, ap, ◌∙◌, subst, arith, length-append, length-take-le}
+use Rattle.std.proofs.Common.{◌≡◌, ℕ, zero, suc, ◌+◌, ◌-◌, ◌<◌, ◌≤◌, List, [], ◌∷◌, ◌++◌, map, length, get_or, take, refl, ◌∙◌, arith, length-append, length-take-le}
 use Rattle.std.proofs.lemmas.List.{length_push, length-map}
 use Rattle.tape.specs.declared.signals.Signal.{Signal}
 use Rattle.tape.specs.declared.signals.Signal.TheVariants.{Byte, Pause}
 use Rattle.tape.specs.declared.signals.Entry.{Entry}
-use Rattle.tape.specs.declared.reader.TapeReader.{TapeReader}
 use Rattle.tape.specs.Reading.{Reads}
-use Rattle.tape.specs.Follow.{Follows, model}
 use Rattle.tape.specs.Laws.{EachReaderHasATape}
 use Rattle.tape.proofs.Grow.{grow_front, grow_full, grow_pause, reads_none}
 use Rattle.tape.proofs.Exists.{tells_some}

@@ -1,8 +1,8 @@
 -- The laws of the reading.
-use Rattle.std.proofs.Common.{◌≡◌, ℕ, suc, ◌+◌, ◌<◌, ◌≤◌, List, [], ◌∷◌, ◌++◌, length, sym, refl, ap, ◌∙◌, subst, append-nil, arith}
+use Rattle.std.proofs.Common.{ℕ, suc, ◌+◌, ◌≤◌, List, [], ◌∷◌, ◌++◌, length, sym, ◌∙◌, subst, append-nil, arith}
 use Rattle.tape.specs.declared.signals.Signal.{Signal}
 use Rattle.tape.specs.declared.signals.Entry.{Entry}
-use Rattle.tape.specs.Reading.{Tells, cut, Parts, Reads}
+use Rattle.tape.specs.Reading.{cut, Parts, Reads}
 use Rattle.tape.specs.Reading.Parts.{none, remnant, frame}
 use Rattle.tape.specs.Reading.Reads.{last, stretch}
 use Rattle.tape.specs.Laws.{OfBytes, Reading, EachTapeHasOneReading, ALongerTapeKeepsTheEntries, Ascends, PlacesAscend}

@@ -1,13 +1,10 @@
 -- No tape has two readings.
-use Rattle.std.proofs.Common.{◌≡◌, ℕ, suc, ◌+◌, ◌<◌, ◌≤◌, List, [], ◌∷◌, ◌++◌, map, length, sym, refl, ap, ◌∙◌, subst, arith, length-append}
+use Rattle.std.proofs.Common.{◌≡◌, ℕ, suc, ◌+◌, List, [], ◌∷◌, ◌++◌, map, length, sym, refl, ap, ◌∙◌, subst, arith, length-append}
 use Rattle.tape.specs.declared.signals.Signal.{Signal}
 use Rattle.tape.specs.declared.signals.Signal.TheVariants.{Byte, Pause}
 use Rattle.tape.specs.declared.signals.Entry.{Entry}
-use Rattle.frame.specs.declared.faults.Fault.{Fault}
-use Rattle.frame.specs.declared.packet.Packet.{Packet}
-use Rattle.record.specs.declared.records.Record.{Record}
 use Rattle.record.proofs.One.{told_one}
-use Rattle.tape.specs.Reading.{Tells, cut, Parts, Reads}
+use Rattle.tape.specs.Reading.{Tells, Parts, Reads}
 use Rattle.tape.specs.Reading.Parts.{none, remnant, frame}
 use Rattle.tape.specs.Reading.Reads.{last, stretch}
 use Rattle.tape.specs.Laws.{Same}

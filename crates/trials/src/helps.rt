@@ -74,14 +74,18 @@ fn written_in<W: Writes>(
     let mut out = old.clone()?;
     match what.write(&mut out) {
         Ok(size) => {
-            assert_eq!(rt; size, text.len(), "a buffer of {room}");
-            assert_eq!(rt; out, changed(heap, &old, 0, text)?, "a buffer of {room}");
+            assert_eq!(rt; size, text.len(), "{text:?}, a buffer of {room}");
+            assert_eq!(rt;
+                out,
+                changed(heap, &old, 0, text)?,
+                "{text:?}, a buffer of {room}"
+            );
             Ok(())
         }
         Err(refusal) => {
-            assert_eq!(rt; refusal.number(), 16, "a buffer of {room}");
-            assert!(rt; room < text.len(), "a buffer of {room}");
-            assert_eq!(rt; out, old, "a buffer of {room}");
+            assert_eq!(rt; refusal.number(), 16, "{text:?}, a buffer of {room}");
+            assert!(rt; room < text.len(), "{text:?}, a buffer of {room}");
+            assert_eq!(rt; out, old, "{text:?}, a buffer of {room}");
             Ok(())
         }
     }

@@ -1,4 +1,4 @@
-use Rattle.std.proofs.Common.{◌≡◌, ◌≤◌, length, rules}
+use Rattle.std.proofs.Common.{rules}
 use Rattle.refusal.proofs.Puts.{put_within}
 use Rattle.lister.proofs.list.Goals as goal
 

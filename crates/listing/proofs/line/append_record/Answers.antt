@@ -1,4 +1,4 @@
-use Rattle.std.proofs.Common.{◌≡◌, length, refl, ap, arith, rules}
+use Rattle.std.proofs.Common.{length, refl, ap, arith, rules}
 use Rattle.house.specs.House.{house_of}
 use Rattle.house.proofs.Sizes.{house_short}
 use Rattle.listing.specs.Text.{hex}

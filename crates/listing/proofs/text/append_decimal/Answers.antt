@@ -1,4 +1,4 @@
-use Rattle.std.proofs.Common.{◌+◌, length, decimal, ap, arith}
+use Rattle.std.proofs.Common.{◌+◌, ap, arith}
 use Rattle.listing.proofs.Digits.{spelled_none, spelled_all, spelled_last, digits_are}
 use Rattle.listing.proofs.text.append_decimal.Goals as goal
 

@@ -1,4 +1,4 @@
-use Rattle.std.proofs.Common.{◌≡◌, Err, sym, refl, ap, ◌∙◌, subst}
+use Rattle.std.proofs.Common.{Err, ap, ◌∙◌}
 use Rattle.frame.specs.Frames.{then_by}
 use Rattle.frame.proofs.Whole.{front_is_whole}
 use Rattle.record.specs.Frames.{verdict_of, verdict_whole}

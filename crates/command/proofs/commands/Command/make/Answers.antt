@@ -1,8 +1,6 @@
-use Rattle.std.proofs.Common.{◌≡◌, ℕ, cond, List, ◌∷◌, Ok, Err, Result, sym, ap, ◌∙◌, arith}
-use Rattle.refusal.specs.declared.refusals.Refusal.{Refusal}
+use Rattle.std.proofs.Common.{◌≡◌, cond, ◌∷◌, Ok, Err, sym, ap, arith}
 use Rattle.refusal.specs.declared.refusals.Refusal.TheVariants.{NoSuchCommand}
-use Rattle.command.specs.declared.commands.Command.{Command}
-use Rattle.command.specs.Commands.{asked, spelling, told}
+use Rattle.command.specs.Commands.{asked, told}
 use Rattle.command.proofs.Asked.{no_kind}
 use Rattle.command.proofs.One.{made_back}
 use Rattle.command.proofs.commands.Command.make.Goals as goal

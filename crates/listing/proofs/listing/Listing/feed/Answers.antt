@@ -1,5 +1,5 @@
-use Rattle.std.proofs.Common.{◌≡◌, refl, ◌∙◌, arith, rules}
-use Rattle.listing.proofs.Streams.{sofar_none, sofar_more}
+use Rattle.std.proofs.Common.{rules}
+use Rattle.listing.proofs.Streams.{sofar_more}
 use Rattle.listing.proofs.listing.Listing.feed.Goals as goal
 
 pub loop-taken-preserved : goal.loop-taken-preserved

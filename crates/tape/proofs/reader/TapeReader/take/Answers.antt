@@ -1,6 +1,6 @@
-use Rattle.std.proofs.Common.{◌≡◌, ℕ, ◌+◌, ◌-◌, ◌<◌, length, take, set, refl, ap, ◌∙◌, arith}
+use Rattle.std.proofs.Common.{◌≡◌, ℕ, ◌+◌, ◌-◌, take, set, refl, ap, ◌∙◌, arith}
 use Rattle.record.specs.Frames.{verdict_of}
-use Rattle.tape.proofs.Steps.{took_more, took_full, took_quiet, took_cut, took_refused}
+use Rattle.tape.proofs.Steps.{took_more, took_full, took_quiet, took_cut}
 use Rattle.tape.proofs.reader.TapeReader.take.Goals as goal
 
 -- the byte is one more of the frame begun
