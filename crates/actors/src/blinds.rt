@@ -73,10 +73,10 @@ impl Kind for BlindsKind {
             return Err(Fault::UnknownSubtype);
         }
         let id = u32::from_be_bytes([0, *id0, *id1, *id2]);
-        if id < 1 || id > id_max(sub) {
+        if !(1..=id_max(sub)).contains(&id) {
             return Err(Fault::OutOfRange(4));
         }
-        if *unit < unit_min(sub) || *unit > unit_max(sub) {
+        if !(unit_min(sub)..=unit_max(sub)).contains(unit) {
             return Err(Fault::OutOfRange(7));
         }
         if *command > command_max(sub) {

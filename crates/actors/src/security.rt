@@ -38,9 +38,8 @@ impl Kind for SecurityKind {
         if sub > 9 {
             return Err(Fault::UnknownSubtype);
         }
-        match *status {
-            0x00..=0x0D | 0x10..=0x17 | 0x80..=0x85 => (),
-            _ => return Err(Fault::OutOfRange(7)),
+        if !matches!(*status, 0x00..=0x0D | 0x10..=0x17 | 0x80..=0x85) {
+            return Err(Fault::OutOfRange(7));
         }
         if *tail % 16 > 9 {
             return Err(Fault::OutOfRange(8));

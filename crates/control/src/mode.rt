@@ -41,7 +41,7 @@ impl Kind for ModeKind {
         if *command != 3 {
             return Err(Fault::OutOfRange(4));
         }
-        if *frequency < 0x50 || *frequency == 0x54 || *frequency > 0x5B {
+        if !matches!(*frequency, 0x50..=0x53 | 0x55..=0x5B) {
             return Err(Fault::OutOfRange(5));
         }
         if *z2 != 0 {

@@ -6,6 +6,7 @@ ghost use Rattle.refusal.specs.Output.{Put};
 use crate::faults::Fault;
 use refusal::refusals::Refusal;
 
+// `sub` and `data` travel apart: in a frame the sequence number stands between them, and users write a kind in this form.
 pub trait Kind {
     const TYPE: u8;
 

@@ -35,7 +35,7 @@ impl Kind for RainKind {
         let [_, _, _, _, _, _, _, tail] = data else {
             return Err(Fault::WrongLength);
         };
-        if sub < 1 || sub > 6 {
+        if !(1..=6).contains(&sub) {
             return Err(Fault::UnknownSubtype);
         }
         if *tail % 16 > 9 {
