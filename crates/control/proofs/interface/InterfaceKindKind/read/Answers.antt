@@ -4,7 +4,4 @@ use Rattle.frame.proofs.Spelled.{spelled}
 use Rattle.control.proofs.interface.InterfaceKindKind.read.Goals as goal
 
 pub returns : goal.returns
-returns c =
-    let e = spelled 10 0 c.args.data.now (omega arith) in
-    let t = c.type_inv.data in
-    grind (arith, nat_tests, e, t 0, t 1, t 2, t 3, t 4, t 5, t 6, t 7, t 8, t 9)
+returns c = grind (arith, nat_tests, spelled 10 0 c.args.data.now (omega arith), c.type_inv.data)
