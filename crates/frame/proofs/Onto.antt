@@ -18,8 +18,9 @@ bytes_drop n xs b i = grind (arith, common_steps, b (n + i))
 four : (xs : List ℕ) → 4 ≤ length xs → xs ≡ get_or xs 0 0 ∷ get_or xs 1 0 ∷ get_or xs 2 0 ∷ get_or xs 3 0 ∷ drop 4 xs
 four xs h = grind (arith, common_steps)
 
-rebuilt : {a a' b b' c c' d : ℕ} {ys zs xs f : List ℕ} → a' ≡ a → b' ≡ b → c ≡ c' → ys ≡ zs → xs ≡ a' ∷ b' ∷ c' ∷ d ∷ zs → xs ≡ f → a ∷ b ∷ c ∷ d ∷ ys ≡ f
-rebuilt ea eb ec ey ex ef = cc
+-- a record with the subtype and the data of a frame makes the packet of that frame
+rebuilt : {R : Type 0} (m : Model R) (r : R) (xs f : List ℕ) → 4 ≤ length xs → get_or xs 0 0 ≡ m.size + 3 → get_or xs 1 0 ≡ m.number → m.sub_of r ≡ get_or xs 2 0 → m.bytes r ≡ drop 4 xs → xs ≡ f → written m (packet (get_or xs 3 0) r) ≡ f
+rebuilt m r xs f h l t u b is = let parts = four xs h in cc
 
 module _ {R : Type 0} (m : Model R) (law : Law m) where
   -- a whole frame that is accepted is the frame of some packet
@@ -31,4 +32,4 @@ module _ {R : Type 0} (m : Model R) (law : Law m) where
       let is : xs ≡ f = grind (arith, nat_tests) in
       let some = law.some in
       let o = law.onto (get_or xs 2 0) (drop 4 xs) (b 2) (bytes_drop 4 xs b) (omega (arith, length-drop 4 xs)) v in
-      (packet (get_or xs 3 0) o.0, rebuilt l t o.1 o.2 (four xs (omega arith)) is)
+      (packet (get_or xs 3 0) o.0, rebuilt m o.0 xs f (omega arith) l t o.1 o.2 is)

@@ -53,6 +53,7 @@ pub fn write_frame<K: Kind>(packet: &Packet<K::Record>, out: &mut [u8]) -> Resul
     let Some((head, data)) = out.split_first_chunk_mut::<4>() else {
         return Err(Refusal::OutputTooShort);
     };
+    // The data first, since they may not fit. A slice pattern in place of the split would leave the buffer's bytes unknown.
     let size = K::write(&packet.record, data)?;
     let sub = K::subtype(&packet.record);
     *head = [K::LENGTH, K::TYPE, sub, packet.seq];
