@@ -1,7 +1,6 @@
 -- Two records with the same fields are one, since the fact in the ghost field has one proof.
-use Rattle.std.specs.Prelude.{◌≡◌, true}
-use Rattle.std.proofs.Math.Bool.{Bool-set}
-use mathlib.Core.HLevel.{is_prop→PathP}
+use Rattle.std.specs.Prelude.{◌≡◌}
+use Rattle.frame.specs.Same.{same_ok}
 use Rattle.actors.specs.Ranges.{blinds_ok, security_ok}
 use Rattle.actors.specs.declared.records.Blinds.{Blinds}
 use Rattle.actors.specs.declared.records.Security.{Security}
@@ -14,7 +13,7 @@ blinds_same r s p0 p1 p2 p3 p4 p5 = λ i. record {
   command = p3 i;
   strength = p4 i;
   battery = p5 i;
-  ok = is_prop→PathP (λ j. blinds_ok (p0 j) (p1 j) (p2 j) (p3 j) (p4 j) (p5 j) ≡ true) (λ j. Bool-set (blinds_ok (p0 j) (p1 j) (p2 j) (p3 j) (p4 j) (p5 j)) true) r.ok s.ok i;
+  ok = same_ok (λ j. blinds_ok (p0 j) (p1 j) (p2 j) (p3 j) (p4 j) (p5 j)) r.ok s.ok i;
 }
 
 pub security_same : (r s : Security) → r.subtype ≡ s.subtype → r.id ≡ s.id → r.status ≡ s.status → r.strength ≡ s.strength → r.battery ≡ s.battery → r ≡ s
@@ -24,5 +23,5 @@ security_same r s p0 p1 p2 p3 p4 = λ i. record {
   status = p2 i;
   strength = p3 i;
   battery = p4 i;
-  ok = is_prop→PathP (λ j. security_ok (p0 j) (p1 j) (p2 j) (p3 j) (p4 j) ≡ true) (λ j. Bool-set (security_ok (p0 j) (p1 j) (p2 j) (p3 j) (p4 j)) true) r.ok s.ok i;
+  ok = same_ok (λ j. security_ok (p0 j) (p1 j) (p2 j) (p3 j) (p4 j)) r.ok s.ok i;
 }

@@ -6,10 +6,11 @@ ghost use Rattle.actors.specs.Ranges.{blinds_ok, security_ok};
 #[derive(Clone, Copy, PartialEq, Eq, Debug)]
 pub struct Blinds {
     pub subtype: u8,
-    // three bytes in the frame
+    // three bytes in the frame: std's from_be_bytes and to_be_bytes, with a 0 in front, are one call each way, so no pair of ours
     pub id: u32,
     pub unit: u8,
     pub command: u8,
+    // one byte in the frame, with the battery: one operation each way, where a type for it with its own fact would be longer
     pub strength: u8,
     pub battery: u8,
     ghost ok: { blinds_ok subtype id unit command strength battery ≡ true },

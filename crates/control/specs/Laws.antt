@@ -19,7 +19,7 @@ transmitter_law = record {
   one = λ r s e f. let p = r.ok in let q = s.ok in transmitter_same r s e (grind (arith, nat_tests));
   onto = λ s xs u b n v.
       let e = spelled 1 0 xs n in
-      (record { subtype = s; message = at8 xs 0; ok = grind (arith, nat_tests, v, b 0) }, refl, grind (arith, nat_tests, e, v, b 0));
+      (record { subtype = s; message = at8 xs 0; ok = grind (arith, nat_tests, v, b 0) }, refl {a = s}, grind (arith, nat_tests, e, v, b 0));
 }
 
 pub interface_law : Law interface
@@ -30,7 +30,7 @@ interface_law = record {
   one = λ r s e f. interface_same r s e (cc) (cc);
   onto = λ s xs u b n v.
       let e = spelled 10 0 xs n in
-      (record { subtype = s; command = at8 xs 0; messages = spell 9 1 xs; ok = grind (arith, nat_tests, v, b 0) }, refl, grind (arith, nat_tests, e));
+      (record { subtype = s; command = at8 xs 0; messages = spell 9 1 xs; ok = grind (arith, nat_tests, v, b 0) }, refl {a = s}, grind (arith, nat_tests, e));
 }
 
 -- the bytes of passing data that no field holds

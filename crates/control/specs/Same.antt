@@ -1,7 +1,6 @@
 -- Two records with the same fields are one, since the fact in the ghost field has one proof.
-use Rattle.std.specs.Prelude.{◌≡◌, true}
-use Rattle.std.proofs.Math.Bool.{Bool-set}
-use mathlib.Core.HLevel.{is_prop→PathP}
+use Rattle.std.specs.Prelude.{◌≡◌}
+use Rattle.frame.specs.Same.{same_ok}
 use Rattle.control.specs.Ranges.{transmitter_ok, interface_ok, mode_ok}
 use Rattle.control.specs.declared.records.InterfaceMessage.{InterfaceMessage}
 use Rattle.control.specs.declared.records.SetMode.{SetMode}
@@ -11,7 +10,7 @@ pub transmitter_same : (r s : TransmitterMessage) → r.subtype ≡ s.subtype �
 transmitter_same r s p0 p1 = λ i. record {
   subtype = p0 i;
   message = p1 i;
-  ok = is_prop→PathP (λ j. transmitter_ok (p0 j) (p1 j) ≡ true) (λ j. Bool-set (transmitter_ok (p0 j) (p1 j)) true) r.ok s.ok i;
+  ok = same_ok (λ j. transmitter_ok (p0 j) (p1 j)) r.ok s.ok i;
 }
 
 pub interface_same : (r s : InterfaceMessage) → r.subtype ≡ s.subtype → r.command ≡ s.command → r.messages ≡ s.messages → r ≡ s
@@ -19,7 +18,7 @@ interface_same r s p0 p1 p2 = λ i. record {
   subtype = p0 i;
   command = p1 i;
   messages = p2 i;
-  ok = is_prop→PathP (λ j. interface_ok (p0 j) (p1 j) (p2 j) ≡ true) (λ j. Bool-set (interface_ok (p0 j) (p1 j) (p2 j)) true) r.ok s.ok i;
+  ok = same_ok (λ j. interface_ok (p0 j) (p1 j) (p2 j)) r.ok s.ok i;
 }
 
 pub mode_same : (r s : SetMode) → r.frequency ≡ s.frequency → r.msg3 ≡ s.msg3 → r.msg4 ≡ s.msg4 → r.msg5 ≡ s.msg5 → r ≡ s
@@ -28,5 +27,5 @@ mode_same r s p0 p1 p2 p3 = λ i. record {
   msg3 = p1 i;
   msg4 = p2 i;
   msg5 = p3 i;
-  ok = is_prop→PathP (λ j. mode_ok (p0 j) (p1 j) (p2 j) (p3 j) ≡ true) (λ j. Bool-set (mode_ok (p0 j) (p1 j) (p2 j) (p3 j)) true) r.ok s.ok i;
+  ok = same_ok (λ j. mode_ok (p0 j) (p1 j) (p2 j) (p3 j)) r.ok s.ok i;
 }

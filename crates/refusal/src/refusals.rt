@@ -5,11 +5,11 @@ ghost use Rattle.refusal.specs.Numbers.{number_of};
 #[derive(Clone, Copy, PartialEq, Eq, Debug)]
 pub enum Refusal {
     // no command has this type, subtype and data
-    NoSuchCommand,
+    NoSuchCommand = 11,
     // the caller's buffer has too few places for what is to be written
-    OutputTooShort,
+    OutputTooShort = 16,
     // no packet has these bytes as its house record
-    NoHouseRecord,
+    NoHouseRecord = 17,
 }
 
 impl Refusal {
@@ -17,10 +17,6 @@ impl Refusal {
     pub fn number(self) -> u8
         ensures { result ≡ number_of self }
     {
-        match self {
-            Refusal::NoSuchCommand => 11,
-            Refusal::OutputTooShort => 16,
-            Refusal::NoHouseRecord => 17,
-        }
+        self as u8
     }
 }

@@ -19,7 +19,7 @@ meter_law = record {
   one = λ r s e f. let p = r.ok in let q = s.ok in meter_same r s e (grind (arith, nat_tests)) (grind (arith, nat_tests)) (grind (arith, nat_tests));
   onto = λ s xs u b n v.
       let e = spelled 7 0 xs n in
-      (record { subtype = s; id = at16 xs 0; counter = at32 xs 2; strength = at8 xs 6 / 16; ok = grind (arith, nat_tests, v, b 0, b 1, b 2, b 3, b 4, b 5, b 6) }, refl, grind (arith, nat_tests, e, v, b 0, b 1, b 2, b 3, b 4, b 5, b 6));
+      (record { subtype = s; id = at16 xs 0; counter = at32 xs 2; strength = at8 xs 6 / 16; ok = grind (arith, nat_tests, v, b 0, b 1, b 2, b 3, b 4, b 5, b 6) }, refl {a = s}, grind (arith, nat_tests, e, v, b 0, b 1, b 2, b 3, b 4, b 5, b 6));
 }
 
 pub climate_law : Law climate
@@ -43,5 +43,5 @@ rain_law = record {
   one = λ r s e f. let p = r.ok in let q = s.ok in rain_same r s e (grind (arith, nat_tests)) (grind (arith, nat_tests)) (grind (arith, nat_tests)) (grind (arith, nat_tests)) (grind (arith, nat_tests));
   onto = λ s xs u b n v.
       let e = spelled 8 0 xs n in
-      (record { subtype = s; id = at16 xs 0; rate = at16 xs 2; total = at24 xs 4; strength = at8 xs 7 / 16; battery = at8 xs 7 % 16; ok = grind (arith, nat_tests, v, b 0, b 1, b 2, b 3, b 4, b 5, b 6, b 7) }, refl, grind (arith, nat_tests, e, v, b 0, b 1, b 2, b 3, b 4, b 5, b 6, b 7));
+      (record { subtype = s; id = at16 xs 0; rate = at16 xs 2; total = at24 xs 4; strength = at8 xs 7 / 16; battery = at8 xs 7 % 16; ok = grind (arith, nat_tests, v, b 0, b 1, b 2, b 3, b 4, b 5, b 6, b 7) }, refl {a = s}, grind (arith, nat_tests, e, v, b 0, b 1, b 2, b 3, b 4, b 5, b 6, b 7));
 }

@@ -1,7 +1,6 @@
 -- Two records with the same fields are one, since the fact in the ghost field has one proof.
-use Rattle.std.specs.Prelude.{◌≡◌, true}
-use Rattle.std.proofs.Math.Bool.{Bool-set}
-use mathlib.Core.HLevel.{is_prop→PathP}
+use Rattle.std.specs.Prelude.{◌≡◌}
+use Rattle.frame.specs.Same.{same_ok}
 use Rattle.sensors.specs.Ranges.{climate_ok, meter_ok, rain_ok}
 use Rattle.sensors.specs.declared.records.Climate.{Climate}
 use Rattle.sensors.specs.declared.records.Meter.{Meter}
@@ -18,7 +17,7 @@ climate_same r s p0 p1 p2 p3 p4 p5 p6 p7 p8 = λ i. record {
   forecast = p6 i;
   strength = p7 i;
   battery = p8 i;
-  ok = is_prop→PathP (λ j. climate_ok (p0 j) (p1 j) (p2 j) (p3 j) (p4 j) (p5 j) (p6 j) (p7 j) (p8 j) ≡ true) (λ j. Bool-set (climate_ok (p0 j) (p1 j) (p2 j) (p3 j) (p4 j) (p5 j) (p6 j) (p7 j) (p8 j)) true) r.ok s.ok i;
+  ok = same_ok (λ j. climate_ok (p0 j) (p1 j) (p2 j) (p3 j) (p4 j) (p5 j) (p6 j) (p7 j) (p8 j)) r.ok s.ok i;
 }
 
 pub rain_same : (r s : Rain) → r.subtype ≡ s.subtype → r.id ≡ s.id → r.rate ≡ s.rate → r.total ≡ s.total → r.strength ≡ s.strength → r.battery ≡ s.battery → r ≡ s
@@ -29,7 +28,7 @@ rain_same r s p0 p1 p2 p3 p4 p5 = λ i. record {
   total = p3 i;
   strength = p4 i;
   battery = p5 i;
-  ok = is_prop→PathP (λ j. rain_ok (p0 j) (p1 j) (p2 j) (p3 j) (p4 j) (p5 j) ≡ true) (λ j. Bool-set (rain_ok (p0 j) (p1 j) (p2 j) (p3 j) (p4 j) (p5 j)) true) r.ok s.ok i;
+  ok = same_ok (λ j. rain_ok (p0 j) (p1 j) (p2 j) (p3 j) (p4 j) (p5 j)) r.ok s.ok i;
 }
 
 pub meter_same : (r s : Meter) → r.subtype ≡ s.subtype → r.id ≡ s.id → r.counter ≡ s.counter → r.strength ≡ s.strength → r ≡ s
@@ -38,5 +37,5 @@ meter_same r s p0 p1 p2 p3 = λ i. record {
   id = p1 i;
   counter = p2 i;
   strength = p3 i;
-  ok = is_prop→PathP (λ j. meter_ok (p0 j) (p1 j) (p2 j) (p3 j) ≡ true) (λ j. Bool-set (meter_ok (p0 j) (p1 j) (p2 j) (p3 j)) true) r.ok s.ok i;
+  ok = same_ok (λ j. meter_ok (p0 j) (p1 j) (p2 j) (p3 j)) r.ok s.ok i;
 }

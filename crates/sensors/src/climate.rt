@@ -1,5 +1,5 @@
 // Type 0x54, temperature, humidity and pressure.
-ghost use Rattle.std.specs.Prelude.{◌≡◌, ◌%◌, ◌≤◌, unsigned_abs};
+ghost use Rattle.std.specs.Prelude.{◌≡◌, refl, [], ◌∷◌, ◌%◌, ◌≤◌, unsigned_abs};
 ghost use Rattle.frame.specs.Fields.{signed, high_byte_of};
 ghost use Rattle.sensors.specs.Climate.{climate};
 ghost use Rattle.sensors.specs.Laws.{climate_law};
@@ -10,38 +10,34 @@ use frame::kind::Kind;
 use refusal::output::put;
 use refusal::refusals::Refusal;
 
+#[derive(Clone, Copy, PartialEq, Eq, Debug)]
 pub struct ClimateKind;
 
 // The number of a sign and a size: no two's complement.
 fn from_signed(hi: u8, lo: u8) -> i16
     ensures { result ≡ signed hi lo }
 {
-    let size = (hi % 128) as i16 * 256 + lo as i16;
+    let size = i16::from_be_bytes([hi % 128, lo]);
     if hi < 128 { size } else { -size }
 }
 
-// The sign, and the high bits of the size.
-fn signed_high(t: i16) -> u8
+// The sign and the high bits of the size, and its low bits.
+fn to_signed(t: i16) -> [u8; 2]
     requires { unsigned_abs t ≤ 0x7FFF }
-    ensures { result ≡ high_byte_of t }
+    ensures { result ≡ high_byte_of t ∷ unsigned_abs t % 256 ∷ [] }
 {
-    if t < 0 {
-        (-t / 256) as u8 + 128
-    } else {
-        (t / 256) as u8
-    }
-}
-
-fn signed_low(t: i16) -> u8
-    ensures { result ≡ unsigned_abs t % 256 }
-{
-    (t.unsigned_abs() % 256) as u8
+    let [hi, lo] = t.unsigned_abs().to_be_bytes();
+    if t < 0 { [hi + 128, lo] } else { [hi, lo] }
 }
 
 impl Kind for ClimateKind {
     const TYPE: u8 = 0x54;
 
+    ghost TYPE = { 0x54 };
+
     const LENGTH: u8 = 13;
+
+    ghost LENGTH = { 13 };
 
     type Record = Climate;
 
@@ -49,19 +45,15 @@ impl Kind for ClimateKind {
 
     ghost law = { climate_law };
 
-    fn type_number() -> u8 {
-        Self::TYPE
-    }
+    ghost type_is = { refl };
 
-    fn length_byte() -> u8 {
-        Self::LENGTH
-    }
+    ghost length_is = { refl };
 
     fn check(sub: u8, data: &[u8]) -> Result<(), Fault> {
         let [_, _, t0, t1, humidity, status, _, _, forecast, tail] = data else {
             return Err(Fault::WrongLength);
         };
-        if sub < 1 || sub > 2 {
+        if !(1..=2).contains(&sub) {
             return Err(Fault::UnknownSubtype);
         }
         if u16::from_be_bytes([*t0, *t1]) == 0x8000 {
@@ -86,20 +78,18 @@ impl Kind for ClimateKind {
         let [id0, id1, t0, t1, humidity, status, p0, p1, forecast, tail] = data else {
             return Err(Fault::WrongLength);
         };
-        match Self::check(sub, data) {
-            Err(fault) => Err(fault),
-            Ok(()) => Ok(Climate {
-                subtype: sub,
-                id: u16::from_be_bytes([*id0, *id1]),
-                temperature: from_signed(*t0, *t1),
-                humidity: *humidity,
-                humidity_status: *status,
-                pressure: u16::from_be_bytes([*p0, *p1]),
-                forecast: *forecast,
-                strength: *tail / 16,
-                battery: *tail % 16,
-            }),
-        }
+        Self::check(sub, data)?;
+        Ok(Climate {
+            subtype: sub,
+            id: u16::from_be_bytes([*id0, *id1]),
+            temperature: from_signed(*t0, *t1),
+            humidity: *humidity,
+            humidity_status: *status,
+            pressure: u16::from_be_bytes([*p0, *p1]),
+            forecast: *forecast,
+            strength: *tail / 16,
+            battery: *tail % 16,
+        })
     }
 
     fn subtype(record: &Climate) -> u8 {
@@ -108,8 +98,7 @@ impl Kind for ClimateKind {
 
     fn write(record: &Climate, out: &mut [u8]) -> Result<usize, Refusal> {
         let [id0, id1] = record.id.to_be_bytes();
-        let t0 = signed_high(record.temperature);
-        let t1 = signed_low(record.temperature);
+        let [t0, t1] = to_signed(record.temperature);
         let [p0, p1] = record.pressure.to_be_bytes();
         let tail = record.strength * 16 + record.battery;
         put(

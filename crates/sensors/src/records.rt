@@ -12,6 +12,7 @@ pub struct Climate {
     pub humidity_status: u8,
     pub pressure: u16,
     pub forecast: u8,
+    // one byte in the frame, with the battery: one operation each way, where a type for it with its own fact would be longer
     pub strength: u8,
     pub battery: u8,
     ghost ok: { climate_ok subtype id temperature humidity humidity_status pressure forecast strength battery ≡ true },
