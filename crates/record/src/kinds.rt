@@ -21,7 +21,7 @@ use sensors::records::{Climate, Meter, Rain};
 pub trait ReadKind: Kind {
     ghost case: { Self.Record → Record };
 
-    // The record, as one of any kind.
+    // The record, as one of any kind. Not `From<Self::Record>`: the law needs a block for each kind anyway.
     fn wrap(record: Self::Record) -> Record
         ensures { result ≡ case «record» };
 
