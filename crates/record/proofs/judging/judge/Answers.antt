@@ -12,3 +12,8 @@ pub returns-clause-writes_back : goal.returns-clause-writes_back
 returns-clause-writes_back c =
     let v : told c.judge_whole.result ≡ verdict_of c.args.bytes.now = search rules in
     writes_back c.args.bytes.now c.judge_whole.result v
+
+pub returns-in_err-front-clause-reads_back : goal.returns-in_err-front-clause-reads_back
+returns-in_err-front-clause-reads_back c =
+    let v : told c.from_residual.result ≡ verdict_of c.args.bytes.now = search rules in
+    reads_back c.args.bytes.now c.from_residual.result v
