@@ -23,11 +23,11 @@ checked_passed : (a b : ℕ) (w : Verdict) → a ≡ b → w ≡ passed → unle
 checked_passed a b w e f = grind (arith, nat_tests)
 
 -- a record's subtype and data pass
-pub record_passes : {R : Type 0} (m : Model R) → Law m → (r : R) → passes m (m.sub_of r) (m.bytes r) ≡ true
+record_passes : {R : Type 0} (m : Model R) → Law m → (r : R) → passes m (m.sub_of r) (m.bytes r) ≡ true
 record_passes m law r = ap is_ok (checked_passed (length (m.bytes r)) m.size (m.verdict (m.sub_of r) (m.bytes r)) (law.sized r) (law.passes r))
 
 -- the tail is nothing just where both its halves are
-pub no_tail : (a b : ℕ) → (a * 16 + b == 0) ≡ (a == 0 && b == 0)
+no_tail : (a b : ℕ) → (a * 16 + b == 0) ≡ (a == 0 && b == 0)
 no_tail a b = grind (arith, nat_tests)
 
 pub mode_fails : (s : ℕ) (xs : List ℕ) → passes mode s xs ≡ false → sendable 0x00 s xs ≡ false
