@@ -1,34 +1,38 @@
--- What a kind's reading says of whether its data pass.
-use Rattle.std.proofs.Common.{◌≡◌, ℕ, true, false, List, ◌∷◌, is_ok, Ok, Err, Result, refl, arith}
+-- What is made of the data that a record was read from.
+use Rattle.std.proofs.Common.{◌≡◌, ℕ, false, cond, List, ◌∷◌, is_ok, Ok, Err, Result, sym, refl, ap, ◌∙◌}
 use Rattle.frame.specs.Faults.{Verdict, after}
-use Rattle.frame.specs.Model.{Model, checked, accepted}
+use Rattle.frame.specs.Model.{Model, checked, accepted, said}
 use Rattle.frame.specs.declared.faults.Fault.{Fault}
-use Rattle.command.specs.Sendable.{passes}
+use Rattle.refusal.specs.declared.refusals.Refusal.{Refusal}
+use Rattle.refusal.specs.declared.refusals.Refusal.TheVariants.{NoSuchCommand}
+use Rattle.command.specs.declared.orders.Order.{Order}
+use Rattle.command.specs.Sendable.{passes, sendable}
+use Rattle.command.specs.Orders.{may_send_order}
+use Rattle.command.specs.Commands.{asked, spelled_by}
 
-record VerdictIs (v : Verdict) (u s : ℕ) (ys xs : List ℕ) : Type 0 where
-  good : is_ok v ≡ true
-  sub : u ≡ s
-  bytes : ys ≡ xs
+-- the answer where a record was read: its order, if that may be sent
+abbrev pub answered : Order → Result (List ℕ) Refusal
+answered o = cond (may_send_order o) (Ok (spelled_by o)) (Err NoSuchCommand)
 
-good_by : (v : Verdict) (u s : ℕ) (ys xs : List ℕ) → ◌≡◌ {A = Result (List ℕ) Fault} (Ok (u ∷ ys)) (after v (s ∷ xs)) → VerdictIs v u s ys xs
-good_by (Ok t) u s ys xs e = record { good = refl; sub = cc; bytes = cc }
-good_by (Err f) u s ys xs e = let z : ◌≡◌ {A = ℕ} 0 1 = cc in absurd (omega arith)
+read_data : (v : Verdict) (l xs : List ℕ) → ◌≡◌ {A = Result (List ℕ) Fault} (Ok l) (after v xs) → l ≡ xs
+read_data (Ok t) l xs e = cc
+read_data (Err f) l xs e = cc
 
-bad_by : (v : Verdict) (f : Fault) (l : List ℕ) → ◌≡◌ {A = Result (List ℕ) Fault} (Err f) (after v l) → is_ok v ≡ false
-bad_by (Ok t) f l e = let z : ◌≡◌ {A = ℕ} 0 1 = cc in absurd (omega arith)
-bad_by (Err g) f l e = refl
+read_fails : (v : Verdict) (f : Fault) (l : List ℕ) → ◌≡◌ {A = Result (List ℕ) Fault} (Err f) (after v l) → is_ok v ≡ false
+read_fails (Ok t) f l e = cc
+read_fails (Err g) f l e = refl
 
 module _ {R : Type 0} (m : Model R) (s : ℕ) (xs : List ℕ) where
-  -- a record was read: the data pass, and are the record's
-  pub read_passes : (r : R) → ◌≡◌ {A = Result (List ℕ) Fault} (Ok (m.sub_of r ∷ m.bytes r)) (accepted m s xs) → passes m s xs ≡ true
-  read_passes r e = (good_by (checked m s xs) (m.sub_of r) s (m.bytes r) xs e).good
+  -- where no record was read, nothing is made
+  pub refused : ((s : ℕ) (xs : List ℕ) → passes m s xs ≡ false → sendable m.number s xs ≡ false) → (v : Result R Fault) → is_ok v ≡ false → said m v ≡ accepted m s xs → Err NoSuchCommand ≡ asked m.number s xs
+  refused fails (Ok r) n e = cc
+  refused fails (Err f) n e = sym (ap (λ p. cond p (Ok (m.number ∷ s ∷ xs)) (Err NoSuchCommand)) (fails s xs (read_fails (checked m s xs) f (s ∷ xs) e)))
 
-  pub read_sub : (r : R) → ◌≡◌ {A = Result (List ℕ) Fault} (Ok (m.sub_of r ∷ m.bytes r)) (accepted m s xs) → m.sub_of r ≡ s
-  read_sub r e = (good_by (checked m s xs) (m.sub_of r) s (m.bytes r) xs e).sub
-
-  pub read_bytes : (r : R) → ◌≡◌ {A = Result (List ℕ) Fault} (Ok (m.sub_of r ∷ m.bytes r)) (accepted m s xs) → m.bytes r ≡ xs
-  read_bytes r e = (good_by (checked m s xs) (m.sub_of r) s (m.bytes r) xs e).bytes
-
-  -- a fault was read: the data do not pass
-  pub read_fails : (f : Fault) → ◌≡◌ {A = Result (List ℕ) Fault} (Err f) (accepted m s xs) → passes m s xs ≡ false
-  read_fails f e = bad_by (checked m s xs) f (s ∷ xs) e
+  -- where a record was read, it is its order that is asked for
+  pub taken : (r : R) (o : Order) → spelled_by o ≡ m.number ∷ m.sub_of r ∷ m.bytes r → sendable m.number (m.sub_of r) (m.bytes r) ≡ may_send_order o → (v : Result R Fault) → v ≡ Ok r → said m v ≡ accepted m s xs → answered o ≡ asked m.number s xs
+  taken r o spells sends v is e =
+      let d = read_data (checked m s xs) (m.sub_of r ∷ m.bytes r) (s ∷ xs) (sym (ap (said m) is) ∙ e) in
+      let u : m.sub_of r ≡ s = cc in
+      let b : m.bytes r ≡ xs = cc in
+      let made = sym sends in
+      (λ i. cond (made i) (Ok (spells i)) (Err NoSuchCommand)) ∙ (λ i. asked m.number (u i) (b i))

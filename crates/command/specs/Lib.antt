@@ -3,3 +3,4 @@ pub mod Orders
 pub mod Commands
 pub mod Startup
 pub mod Laws
+pub mod Kinds

@@ -2,17 +2,13 @@
 ghost use Rattle.command.specs.Laws.{EachCommandMayBeSent, NoTwoCommandsAreSpelledAlike, WhatMayBeSentIsSomeCommand, EachFramePassesItsCheck, NoTwoFramesAreAlike};
 
 // Commands and what may be sent are one to one.
-pub fn commands_are_sendable() -> u8
+pub fn commands_are_sendable()
     ensures may { EachCommandMayBeSent }
     ensures one { NoTwoCommandsAreSpelledAlike }
     ensures onto { WhatMayBeSentIsSomeCommand }
-{
-    0
-}
+{}
 
-pub fn command_frames_stand() -> u8
+pub fn command_frames_stand()
     ensures passes { EachFramePassesItsCheck }
     ensures one { NoTwoFramesAreAlike }
-{
-    0
-}
+{}

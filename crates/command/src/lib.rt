@@ -2,6 +2,7 @@
 #![tactic(auto)]
 
 pub mod commands;
+pub mod kinds;
 pub mod laws;
 pub mod making;
 pub mod orders;

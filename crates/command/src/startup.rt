@@ -28,7 +28,9 @@ impl Startup {
             Startup::GetStatus => GET_STATUS,
         }
     }
-    // Which of the two packets the bytes are, compared byte by byte; none where they are neither.
+
+    // Which of the two packets the bytes are, compared byte by byte; none where they are neither. That they are constants to
+    // compare with is a form that the customer fixed.
     pub fn recognise(bytes: &[u8]) -> Option<Startup>
         ensures { Recognised bytes.now result }
     {

@@ -13,13 +13,13 @@ use frame::kind::Kind;
 use frame::packet::Packet;
 use refusal::refusals::Refusal;
 
+// In each of the three, every arm names another kind: a generic function would need this very match to find the kind.
 impl Command {
     // Its type number.
     pub fn type_number(&self) -> u8
         ensures { result ≡ type_of self.now }
     {
-        let any = self.order;
-        match any {
+        match self.order {
             Order::Mode(_) => ModeKind::TYPE,
             Order::Blinds(_) => BlindsKind::TYPE,
             Order::Security(_) => SecurityKind::TYPE,
@@ -30,8 +30,7 @@ impl Command {
     pub fn size(&self) -> usize
         ensures { (seq : ℕ) → result ≡ length (frame_of seq self.now) }
     {
-        let any = self.order;
-        let length = match any {
+        let length = match self.order {
             Order::Mode(_) => ModeKind::LENGTH,
             Order::Blinds(_) => BlindsKind::LENGTH,
             Order::Security(_) => SecurityKind::LENGTH,
@@ -43,8 +42,7 @@ impl Command {
     pub fn write(&self, seq: u8, out: &mut [u8]) -> Result<usize, Refusal>
         ensures { Put (frame_of seq self.now) out.old result out.new }
     {
-        let any = self.order;
-        match any {
+        match self.order {
             Order::Mode(record) => write_frame::<ModeKind>(&Packet { seq, record }, out),
             Order::Blinds(record) => write_frame::<BlindsKind>(&Packet { seq, record }, out),
             Order::Security(record) => write_frame::<SecurityKind>(&Packet { seq, record }, out),
