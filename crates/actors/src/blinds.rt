@@ -1,5 +1,5 @@
 // Type 0x19, blinds. The limits of its fields go by the subtype.
-ghost use Rattle.std.specs.Prelude.{◌≡◌};
+ghost use Rattle.std.specs.Prelude.{◌≡◌, refl};
 ghost use Rattle.actors.specs.Blinds.{blinds};
 ghost use Rattle.actors.specs.Ranges.{id_max, unit_min, unit_max, command_max};
 ghost use Rattle.actors.specs.Laws.{blinds_law};
@@ -10,6 +10,7 @@ use frame::kind::Kind;
 use refusal::output::put;
 use refusal::refusals::Refusal;
 
+#[derive(Clone, Copy, PartialEq, Eq, Debug)]
 pub struct BlindsKind;
 
 fn id_max(sub: u8) -> u32
@@ -48,7 +49,11 @@ fn command_max(sub: u8) -> u8
 impl Kind for BlindsKind {
     const TYPE: u8 = 0x19;
 
+    ghost TYPE = { 0x19 };
+
     const LENGTH: u8 = 9;
+
+    ghost LENGTH = { 9 };
 
     type Record = Blinds;
 
@@ -56,13 +61,9 @@ impl Kind for BlindsKind {
 
     ghost law = { blinds_law };
 
-    fn type_number() -> u8 {
-        Self::TYPE
-    }
+    ghost type_is = { refl };
 
-    fn length_byte() -> u8 {
-        Self::LENGTH
-    }
+    ghost length_is = { refl };
 
     fn check(sub: u8, data: &[u8]) -> Result<(), Fault> {
         let [id0, id1, id2, unit, command, tail] = data else {
@@ -91,17 +92,15 @@ impl Kind for BlindsKind {
         let [id0, id1, id2, unit, command, tail] = data else {
             return Err(Fault::WrongLength);
         };
-        match Self::check(sub, data) {
-            Err(fault) => Err(fault),
-            Ok(()) => Ok(Blinds {
-                subtype: sub,
-                id: u32::from_be_bytes([0, *id0, *id1, *id2]),
-                unit: *unit,
-                command: *command,
-                strength: *tail / 16,
-                battery: *tail % 16,
-            }),
-        }
+        Self::check(sub, data)?;
+        Ok(Blinds {
+            subtype: sub,
+            id: u32::from_be_bytes([0, *id0, *id1, *id2]),
+            unit: *unit,
+            command: *command,
+            strength: *tail / 16,
+            battery: *tail % 16,
+        })
     }
 
     fn subtype(record: &Blinds) -> u8 {

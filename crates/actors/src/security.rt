@@ -1,4 +1,5 @@
 // Type 0x20, security contacts and the like.
+ghost use Rattle.std.specs.Prelude.{refl};
 ghost use Rattle.actors.specs.Security.{security};
 ghost use Rattle.actors.specs.Laws.{security_law};
 
@@ -8,12 +9,17 @@ use frame::kind::Kind;
 use refusal::output::put;
 use refusal::refusals::Refusal;
 
+#[derive(Clone, Copy, PartialEq, Eq, Debug)]
 pub struct SecurityKind;
 
 impl Kind for SecurityKind {
     const TYPE: u8 = 0x20;
 
+    ghost TYPE = { 0x20 };
+
     const LENGTH: u8 = 8;
+
+    ghost LENGTH = { 8 };
 
     type Record = Security;
 
@@ -21,13 +27,9 @@ impl Kind for SecurityKind {
 
     ghost law = { security_law };
 
-    fn type_number() -> u8 {
-        Self::TYPE
-    }
+    ghost type_is = { refl };
 
-    fn length_byte() -> u8 {
-        Self::LENGTH
-    }
+    ghost length_is = { refl };
 
     fn check(sub: u8, data: &[u8]) -> Result<(), Fault> {
         let [_, _, _, status, tail] = data else {
@@ -50,16 +52,14 @@ impl Kind for SecurityKind {
         let [id0, id1, id2, status, tail] = data else {
             return Err(Fault::WrongLength);
         };
-        match Self::check(sub, data) {
-            Err(fault) => Err(fault),
-            Ok(()) => Ok(Security {
-                subtype: sub,
-                id: u32::from_be_bytes([0, *id0, *id1, *id2]),
-                status: *status,
-                strength: *tail / 16,
-                battery: *tail % 16,
-            }),
-        }
+        Self::check(sub, data)?;
+        Ok(Security {
+            subtype: sub,
+            id: u32::from_be_bytes([0, *id0, *id1, *id2]),
+            status: *status,
+            strength: *tail / 16,
+            battery: *tail % 16,
+        })
     }
 
     fn subtype(record: &Security) -> u8 {

@@ -1,4 +1,5 @@
 // Type 0x01, the interface's messages.
+ghost use Rattle.std.specs.Prelude.{refl};
 ghost use Rattle.control.specs.Interface.{interface};
 ghost use Rattle.control.specs.Laws.{interface_law};
 
@@ -8,12 +9,17 @@ use frame::kind::Kind;
 use refusal::output::put;
 use refusal::refusals::Refusal;
 
+#[derive(Clone, Copy, PartialEq, Eq, Debug)]
 pub struct InterfaceKind;
 
 impl Kind for InterfaceKind {
     const TYPE: u8 = 0x01;
 
+    ghost TYPE = { 0x01 };
+
     const LENGTH: u8 = 13;
+
+    ghost LENGTH = { 13 };
 
     type Record = InterfaceMessage;
 
@@ -21,13 +27,9 @@ impl Kind for InterfaceKind {
 
     ghost law = { interface_law };
 
-    fn type_number() -> u8 {
-        Self::TYPE
-    }
+    ghost type_is = { refl };
 
-    fn length_byte() -> u8 {
-        Self::LENGTH
-    }
+    ghost length_is = { refl };
 
     fn check(sub: u8, data: &[u8]) -> Result<(), Fault> {
         let [_, _, _, _, _, _, _, _, _, _] = data else {
@@ -43,14 +45,12 @@ impl Kind for InterfaceKind {
         let [command, m1, m2, m3, m4, m5, m6, m7, m8, m9] = data else {
             return Err(Fault::WrongLength);
         };
-        match Self::check(sub, data) {
-            Err(fault) => Err(fault),
-            Ok(()) => Ok(InterfaceMessage {
-                subtype: sub,
-                command: *command,
-                messages: [*m1, *m2, *m3, *m4, *m5, *m6, *m7, *m8, *m9],
-            }),
-        }
+        Self::check(sub, data)?;
+        Ok(InterfaceMessage {
+            subtype: sub,
+            command: *command,
+            messages: [*m1, *m2, *m3, *m4, *m5, *m6, *m7, *m8, *m9],
+        })
     }
 
     fn subtype(record: &InterfaceMessage) -> u8 {

@@ -1,4 +1,5 @@
 // Type 0x00, the mode that the interface is set to: written to it, and never heard on the air.
+ghost use Rattle.std.specs.Prelude.{refl};
 ghost use Rattle.control.specs.Mode.{mode};
 ghost use Rattle.control.specs.Laws.{mode_law};
 
@@ -8,12 +9,17 @@ use frame::kind::Kind;
 use refusal::output::put;
 use refusal::refusals::Refusal;
 
+#[derive(Clone, Copy, PartialEq, Eq, Debug)]
 pub struct ModeKind;
 
 impl Kind for ModeKind {
     const TYPE: u8 = 0x00;
 
+    ghost TYPE = { 0x00 };
+
     const LENGTH: u8 = 13;
+
+    ghost LENGTH = { 13 };
 
     type Record = SetMode;
 
@@ -21,13 +27,9 @@ impl Kind for ModeKind {
 
     ghost law = { mode_law };
 
-    fn type_number() -> u8 {
-        Self::TYPE
-    }
+    ghost type_is = { refl };
 
-    fn length_byte() -> u8 {
-        Self::LENGTH
-    }
+    ghost length_is = { refl };
 
     fn check(sub: u8, data: &[u8]) -> Result<(), Fault> {
         let [command, frequency, z2, msg3, _, _, z6, z7, z8, z9] = data else {
@@ -68,15 +70,13 @@ impl Kind for ModeKind {
         let [_, frequency, _, msg3, msg4, msg5, _, _, _, _] = data else {
             return Err(Fault::WrongLength);
         };
-        match Self::check(sub, data) {
-            Err(fault) => Err(fault),
-            Ok(()) => Ok(SetMode {
-                frequency: *frequency,
-                msg3: *msg3,
-                msg4: *msg4,
-                msg5: *msg5,
-            }),
-        }
+        Self::check(sub, data)?;
+        Ok(SetMode {
+            frequency: *frequency,
+            msg3: *msg3,
+            msg4: *msg4,
+            msg5: *msg5,
+        })
     }
 
     fn subtype(_record: &SetMode) -> u8 {

@@ -1,4 +1,5 @@
 // Type 0x02, the transmitter's messages.
+ghost use Rattle.std.specs.Prelude.{refl};
 ghost use Rattle.control.specs.Transmitter.{transmitter};
 ghost use Rattle.control.specs.Laws.{transmitter_law};
 
@@ -8,12 +9,17 @@ use frame::kind::Kind;
 use refusal::output::put;
 use refusal::refusals::Refusal;
 
+#[derive(Clone, Copy, PartialEq, Eq, Debug)]
 pub struct TransmitterKind;
 
 impl Kind for TransmitterKind {
     const TYPE: u8 = 0x02;
 
+    ghost TYPE = { 0x02 };
+
     const LENGTH: u8 = 4;
+
+    ghost LENGTH = { 4 };
 
     type Record = TransmitterMessage;
 
@@ -21,13 +27,9 @@ impl Kind for TransmitterKind {
 
     ghost law = { transmitter_law };
 
-    fn type_number() -> u8 {
-        Self::TYPE
-    }
+    ghost type_is = { refl };
 
-    fn length_byte() -> u8 {
-        Self::LENGTH
-    }
+    ghost length_is = { refl };
 
     fn check(sub: u8, data: &[u8]) -> Result<(), Fault> {
         let [_] = data else {
@@ -43,13 +45,11 @@ impl Kind for TransmitterKind {
         let [message] = data else {
             return Err(Fault::WrongLength);
         };
-        match Self::check(sub, data) {
-            Err(fault) => Err(fault),
-            Ok(()) => Ok(TransmitterMessage {
-                subtype: sub,
-                message: *message,
-            }),
-        }
+        Self::check(sub, data)?;
+        Ok(TransmitterMessage {
+            subtype: sub,
+            message: *message,
+        })
     }
 
     fn subtype(record: &TransmitterMessage) -> u8 {

@@ -1,7 +1,6 @@
 -- An accepted frame is a packet's.
-use Rattle.std.proofs.Common.{◌≡◌, ℕ, ◌+◌, ◌<◌, ◌≤◌, List, ◌∷◌, length, get_or, take, drop, Ok, sym, ap, ◌∙◌, subst, arith, length-drop, length-take, get_or-drop, get_or-take}
-use native.Mathlib.Decide.{dec_lt}
-use Rattle.std.proofs.lemmas.List.{drop_more, get_or_past}
+use Rattle.std.proofs.Common.{◌≡◌, ℕ, ◌+◌, ◌≤◌, List, ◌∷◌, length, get_or, take, drop, Ok, arith, length-drop}
+use Rattle.std.proofs.lemmas.Grind.{common_steps}
 use Rattle.std.proofs.lemmas.Bool.Decides.{nat_tests}
 use Rattle.frame.specs.declared.packet.Packet.{Packet}
 use Rattle.frame.specs.Faults.{passed}
@@ -10,22 +9,14 @@ use Rattle.frame.specs.Model.{Model, Law}
 use Rattle.frame.specs.Frames.{Whole, written, judged_whole, packet}
 
 pub bytes_take : (n : ℕ) (xs : List ℕ) → Bytes xs → Bytes (take n xs)
-bytes_take n xs b i =
-    elim (dec_lt i n) [
-      | yes h ↦ subst (λ v. v < 256) (sym (get_or-take n xs i 0 h)) (b i)
-      | no h ↦ subst (λ v. v < 256) (sym (get_or_past (take n xs) i 0 (omega (arith, length-take n xs)))) (omega arith)
-    ]
+bytes_take n xs b i = grind (arith, common_steps, b i)
 
 pub bytes_drop : (n : ℕ) (xs : List ℕ) → Bytes xs → Bytes (drop n xs)
-bytes_drop n xs b i = subst (λ v. v < 256) (sym (get_or-drop n xs i 0)) (b (n + i))
+bytes_drop n xs b i = grind (arith, common_steps, b (n + i))
 
 -- the first four elements of a list, and the rest
 four : (xs : List ℕ) → 4 ≤ length xs → xs ≡ get_or xs 0 0 ∷ get_or xs 1 0 ∷ get_or xs 2 0 ∷ get_or xs 3 0 ∷ drop 4 xs
-four xs h =
-    drop_more xs 0 0 (omega arith)
-    ∙ ap (λ l. get_or xs 0 0 ∷ l) (drop_more xs 1 0 (omega arith)
-    ∙ ap (λ l. get_or xs 1 0 ∷ l) (drop_more xs 2 0 (omega arith)
-    ∙ ap (λ l. get_or xs 2 0 ∷ l) (drop_more xs 3 0 (omega arith))))
+four xs h = grind (arith, common_steps)
 
 rebuilt : {a a' b b' c c' d : ℕ} {ys zs xs f : List ℕ} → a' ≡ a → b' ≡ b → c ≡ c' → ys ≡ zs → xs ≡ a' ∷ b' ∷ c' ∷ d ∷ zs → xs ≡ f → a ∷ b ∷ c ∷ d ∷ ys ≡ f
 rebuilt ea eb ec ey ex ef = cc

@@ -1,5 +1,5 @@
 // What every packet kind is to show. Its data are the bytes behind the four of the header.
-ghost use Rattle.std.specs.Prelude.{◌≡◌, ◌+◌};
+ghost use Rattle.std.specs.Prelude.{◌≡◌, ℕ, ◌+◌};
 ghost use Rattle.frame.specs.Model.{Model, Law, checked, accepted, said};
 ghost use Rattle.refusal.specs.Output.{Put};
 
@@ -9,19 +9,15 @@ use refusal::refusals::Refusal;
 pub trait Kind {
     const TYPE: u8;
 
+    ghost TYPE: { ℕ };
+
     const LENGTH: u8;
+
+    ghost LENGTH: { ℕ };
 
     type Record: Copy;
 
     ghost model: { Model Self.Record };
-
-    // `TYPE`, in a form that a clause can speak of.
-    fn type_number() -> u8
-        ensures { result ≡ model.number };
-
-    // `LENGTH`, in a form that a clause can speak of.
-    fn length_byte() -> u8
-        ensures { result ≡ model.size + 3 };
 
     // Whether a subtype and data are a record's, or else the first fault.
     fn check(sub: u8, data: &[u8]) -> Result<(), Fault>
@@ -39,4 +35,9 @@ pub trait Kind {
         ensures { Put (model.bytes «record».now) out.old result out.new };
 
     ghost law: { Law model };
+
+    // The two constants are those of the model.
+    ghost type_is: { TYPE ≡ model.number };
+
+    ghost length_is: { LENGTH ≡ model.size + 3 };
 }

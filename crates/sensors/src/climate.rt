@@ -1,5 +1,5 @@
 // Type 0x54, temperature, humidity and pressure.
-ghost use Rattle.std.specs.Prelude.{◌≡◌, ◌%◌, ◌≤◌, unsigned_abs};
+ghost use Rattle.std.specs.Prelude.{◌≡◌, refl, ◌%◌, ◌≤◌, unsigned_abs};
 ghost use Rattle.frame.specs.Fields.{signed, high_byte_of};
 ghost use Rattle.sensors.specs.Climate.{climate};
 ghost use Rattle.sensors.specs.Laws.{climate_law};
@@ -10,6 +10,7 @@ use frame::kind::Kind;
 use refusal::output::put;
 use refusal::refusals::Refusal;
 
+#[derive(Clone, Copy, PartialEq, Eq, Debug)]
 pub struct ClimateKind;
 
 // The number of a sign and a size: no two's complement.
@@ -41,7 +42,11 @@ fn signed_low(t: i16) -> u8
 impl Kind for ClimateKind {
     const TYPE: u8 = 0x54;
 
+    ghost TYPE = { 0x54 };
+
     const LENGTH: u8 = 13;
+
+    ghost LENGTH = { 13 };
 
     type Record = Climate;
 
@@ -49,13 +54,9 @@ impl Kind for ClimateKind {
 
     ghost law = { climate_law };
 
-    fn type_number() -> u8 {
-        Self::TYPE
-    }
+    ghost type_is = { refl };
 
-    fn length_byte() -> u8 {
-        Self::LENGTH
-    }
+    ghost length_is = { refl };
 
     fn check(sub: u8, data: &[u8]) -> Result<(), Fault> {
         let [_, _, t0, t1, humidity, status, _, _, forecast, tail] = data else {
@@ -86,20 +87,18 @@ impl Kind for ClimateKind {
         let [id0, id1, t0, t1, humidity, status, p0, p1, forecast, tail] = data else {
             return Err(Fault::WrongLength);
         };
-        match Self::check(sub, data) {
-            Err(fault) => Err(fault),
-            Ok(()) => Ok(Climate {
-                subtype: sub,
-                id: u16::from_be_bytes([*id0, *id1]),
-                temperature: from_signed(*t0, *t1),
-                humidity: *humidity,
-                humidity_status: *status,
-                pressure: u16::from_be_bytes([*p0, *p1]),
-                forecast: *forecast,
-                strength: *tail / 16,
-                battery: *tail % 16,
-            }),
-        }
+        Self::check(sub, data)?;
+        Ok(Climate {
+            subtype: sub,
+            id: u16::from_be_bytes([*id0, *id1]),
+            temperature: from_signed(*t0, *t1),
+            humidity: *humidity,
+            humidity_status: *status,
+            pressure: u16::from_be_bytes([*p0, *p1]),
+            forecast: *forecast,
+            strength: *tail / 16,
+            battery: *tail % 16,
+        })
     }
 
     fn subtype(record: &Climate) -> u8 {

@@ -1,4 +1,5 @@
 // Type 0x71, meters that count pulses.
+ghost use Rattle.std.specs.Prelude.{refl};
 ghost use Rattle.sensors.specs.Meter.{meter};
 ghost use Rattle.sensors.specs.Laws.{meter_law};
 
@@ -8,12 +9,17 @@ use frame::kind::Kind;
 use refusal::output::put;
 use refusal::refusals::Refusal;
 
+#[derive(Clone, Copy, PartialEq, Eq, Debug)]
 pub struct MeterKind;
 
 impl Kind for MeterKind {
     const TYPE: u8 = 0x71;
 
+    ghost TYPE = { 0x71 };
+
     const LENGTH: u8 = 10;
+
+    ghost LENGTH = { 10 };
 
     type Record = Meter;
 
@@ -21,13 +27,9 @@ impl Kind for MeterKind {
 
     ghost law = { meter_law };
 
-    fn type_number() -> u8 {
-        Self::TYPE
-    }
+    ghost type_is = { refl };
 
-    fn length_byte() -> u8 {
-        Self::LENGTH
-    }
+    ghost length_is = { refl };
 
     fn check(sub: u8, data: &[u8]) -> Result<(), Fault> {
         let [_, _, c0, c1, c2, c3, tail] = data else {
@@ -49,15 +51,13 @@ impl Kind for MeterKind {
         let [id0, id1, c0, c1, c2, c3, tail] = data else {
             return Err(Fault::WrongLength);
         };
-        match Self::check(sub, data) {
-            Err(fault) => Err(fault),
-            Ok(()) => Ok(Meter {
-                subtype: sub,
-                id: u16::from_be_bytes([*id0, *id1]),
-                counter: u32::from_be_bytes([*c0, *c1, *c2, *c3]),
-                strength: *tail / 16,
-            }),
-        }
+        Self::check(sub, data)?;
+        Ok(Meter {
+            subtype: sub,
+            id: u16::from_be_bytes([*id0, *id1]),
+            counter: u32::from_be_bytes([*c0, *c1, *c2, *c3]),
+            strength: *tail / 16,
+        })
     }
 
     fn subtype(record: &Meter) -> u8 {

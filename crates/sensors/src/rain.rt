@@ -1,4 +1,5 @@
 // Type 0x55, rain gauges.
+ghost use Rattle.std.specs.Prelude.{refl};
 ghost use Rattle.sensors.specs.Rain.{rain};
 ghost use Rattle.sensors.specs.Laws.{rain_law};
 
@@ -8,12 +9,17 @@ use frame::kind::Kind;
 use refusal::output::put;
 use refusal::refusals::Refusal;
 
+#[derive(Clone, Copy, PartialEq, Eq, Debug)]
 pub struct RainKind;
 
 impl Kind for RainKind {
     const TYPE: u8 = 0x55;
 
+    ghost TYPE = { 0x55 };
+
     const LENGTH: u8 = 11;
+
+    ghost LENGTH = { 11 };
 
     type Record = Rain;
 
@@ -21,13 +27,9 @@ impl Kind for RainKind {
 
     ghost law = { rain_law };
 
-    fn type_number() -> u8 {
-        Self::TYPE
-    }
+    ghost type_is = { refl };
 
-    fn length_byte() -> u8 {
-        Self::LENGTH
-    }
+    ghost length_is = { refl };
 
     fn check(sub: u8, data: &[u8]) -> Result<(), Fault> {
         let [_, _, _, _, _, _, _, tail] = data else {
@@ -46,17 +48,15 @@ impl Kind for RainKind {
         let [id0, id1, r0, r1, t0, t1, t2, tail] = data else {
             return Err(Fault::WrongLength);
         };
-        match Self::check(sub, data) {
-            Err(fault) => Err(fault),
-            Ok(()) => Ok(Rain {
-                subtype: sub,
-                id: u16::from_be_bytes([*id0, *id1]),
-                rate: u16::from_be_bytes([*r0, *r1]),
-                total: u32::from_be_bytes([0, *t0, *t1, *t2]),
-                strength: *tail / 16,
-                battery: *tail % 16,
-            }),
-        }
+        Self::check(sub, data)?;
+        Ok(Rain {
+            subtype: sub,
+            id: u16::from_be_bytes([*id0, *id1]),
+            rate: u16::from_be_bytes([*r0, *r1]),
+            total: u32::from_be_bytes([0, *t0, *t1, *t2]),
+            strength: *tail / 16,
+            battery: *tail % 16,
+        })
     }
 
     fn subtype(record: &Rain) -> u8 {
