@@ -53,30 +53,27 @@ front_bytes xs f b e =
           subst Bytes is (bytes_take (get_or xs 0 0 + 1) xs b)
       | no h ↦
           let no : ◌≡◌ {A = Result (List ℕ) Fault} (Err (Cut (length xs))) (Ok f) = grind (arith, nat_tests) in
-          let z : ◌≡◌ {A = ℕ} 0 1 = cc in
-          absurd (omega arith)
+          cc
+    ]
+
+-- a whole frame is accepted as one of some kind
+accepted_by : (g f : List ℕ) → verdict_whole g ≡ Ok f → (k : Sort) × (judged_whole (model k) g ≡ Ok f)
+accepted_by g f e =
+    elim (dec_le 4 (get_or g 0 0)) [
+      | yes h ↦ elim (typed g h) [ inl k ↦ (k.0, sym (verdict_is k.0 g h k.1) ∙ e) | inr n ↦ cc ]
+      | no h ↦ let no : ◌≡◌ {A = Result (List ℕ) Fault} (Err NoPayload) (Ok f) = grind (arith, nat_tests) in cc
     ]
 
 -- an accepted frame that stands whole is some packet's
 onto_whole_any : (g f : List ℕ) → Whole g → Bytes g → verdict_whole g ≡ Ok f → (p : Packet Record) × (frame_of p ≡ f)
 onto_whole_any g f w b e =
-    elim (dec_le 4 (get_or g 0 0)) [
-      | yes h ↦
-          elim (typed g h) [
-            | inl k ↦
-                let o = onto_whole (model k.0) (law k.0) g f w b (sym (verdict_is k.0 g h k.1) ∙ e) in
-                (packet o.0.seq (inject k.0 o.0.«record»), injected k.0 o.0.seq o.0.«record» ∙ o.1)
-            | inr n ↦ let z : ◌≡◌ {A = ℕ} 0 1 = cc in absurd (omega arith)
-          ]
-      | no h ↦
-          let no : ◌≡◌ {A = Result (List ℕ) Fault} (Err NoPayload) (Ok f) = grind (arith, nat_tests) in
-          let z : ◌≡◌ {A = ℕ} 0 1 = cc in
-          absurd (omega arith)
-    ]
+    let k = accepted_by g f e in
+    let o = onto_whole (model k.0) (law k.0) g f w b k.1 in
+    (packet o.0.seq (inject k.0 o.0.«record»), injected k.0 o.0.seq o.0.«record» ∙ o.1)
 
 then_ok : (r : Result (List ℕ) Fault) (f : List ℕ) → then_by r verdict_whole ≡ Ok f → (g : List ℕ) × (r ≡ Ok g) × (verdict_whole g ≡ Ok f)
 then_ok (Ok g) f e = (g, refl, e)
-then_ok (Err x) f e = let z : ◌≡◌ {A = ℕ} 0 1 = cc in absurd (omega arith)
+then_ok (Err x) f e = cc
 
 pub onto : EachAcceptedFrameIsAPackets
 onto xs f b e =
@@ -84,31 +81,20 @@ onto xs f b e =
     onto_whole_any g.0 f (front_is_whole xs g.0 (sym g.1)) (front_bytes xs g.0 b g.1) g.2
 
 -- a packet's frame is read as that packet
-pub reads_back : (r : Result (Packet Record) Fault) (p : Packet Record) → told r ≡ verdict_of (frame_of p) → r ≡ Ok p
-reads_back (Ok q) p e = let f = e ∙ accepted p in ap Ok (one q p (cc))
-reads_back (Err x) p e = let f = e ∙ accepted p in let z : ◌≡◌ {A = ℕ} 0 1 = cc in absurd (omega arith)
+pub reads_back : (xs : List ℕ) (r : Result (Packet Record) Fault) → told r ≡ verdict_of xs → (p : Packet Record) → xs ≡ frame_of p → r ≡ Ok p
+reads_back xs (Ok q) e p is = let f = e ∙ ap verdict_of is ∙ accepted p in ap Ok (one q p (cc))
+reads_back xs (Err x) e p is = let f = e ∙ ap verdict_of is ∙ accepted p in cc
 
 -- what a whole frame is accepted as is that frame
 accepted_is : (k : Sort) (g f : List ℕ) → judged_whole (model k) g ≡ Ok f → g ≡ f
 accepted_is k g f e = grind (arith, nat_tests)
 
 accepted_same : (g f : List ℕ) → verdict_whole g ≡ Ok f → g ≡ f
-accepted_same g f e =
-    elim (dec_le 4 (get_or g 0 0)) [
-      | yes h ↦
-          elim (typed g h) [
-            | inl k ↦ accepted_is k.0 g f (sym (verdict_is k.0 g h k.1) ∙ e)
-            | inr n ↦ let z : ◌≡◌ {A = ℕ} 0 1 = cc in absurd (omega arith)
-          ]
-      | no h ↦
-          let no : ◌≡◌ {A = Result (List ℕ) Fault} (Err NoPayload) (Ok f) = grind (arith, nat_tests) in
-          let z : ◌≡◌ {A = ℕ} 0 1 = cc in
-          absurd (omega arith)
-    ]
+accepted_same g f e = let k = accepted_by g f e in accepted_is k.0 g f k.1
 
 -- a packet that is read is written as the frame that stands there
-pub writes_back : (xs : List ℕ) (r : Result (Packet Record) Fault) (p : Packet Record) → told r ≡ verdict_of xs → r ≡ Ok p → front_of xs ≡ Ok (frame_of p)
-writes_back xs r p e is =
+pub writes_back : (xs : List ℕ) (r : Result (Packet Record) Fault) → told r ≡ verdict_of xs → (p : Packet Record) → r ≡ Ok p → front_of xs ≡ Ok (frame_of p)
+writes_back xs r e p is =
     let t : told (Ok p) ≡ verdict_of xs = sym (ap told is) ∙ e in
     let g = then_ok (front_of xs) (frame_of p) (sym t) in
     g.1 ∙ ap Ok (accepted_same g.0 (frame_of p) g.2)
@@ -116,8 +102,8 @@ writes_back xs r p e is =
 -- a verdict is one by the frame or the fault that it tells
 pub told_one : (v w : Result (Packet Record) Fault) → told v ≡ told w → v ≡ w
 told_one (Ok p) (Ok q) e = ap Ok (one p q (cc))
-told_one (Ok p) (Err x) e = let z : ◌≡◌ {A = ℕ} 0 1 = cc in absurd (omega arith)
-told_one (Err x) (Ok q) e = let z : ◌≡◌ {A = ℕ} 0 1 = cc in absurd (omega arith)
+told_one (Ok p) (Err x) e = cc
+told_one (Err x) (Ok q) e = cc
 told_one (Err x) (Err y) e = ap Err (cc)
 
 -- every frame has a verdict

@@ -1,11 +1,9 @@
 -- The kinds of records that are read, by a name of each, so that what holds of every kind is shown once.
-use Rattle.std.proofs.Common.{◌≡◌, ℕ, ◌≤◌, cond, eqb, ◌⊎◌, List, get_or, Err, Result, sym, refl, ◌∙◌, inl, inr, arith}
-use native.Mathlib.Decide.{dec_le}
+use Rattle.std.proofs.Common.{◌≡◌, ℕ, ◌≤◌, cond, eqb, ◌⊎◌, List, get_or, Err, sym, refl, ap, ◌∙◌, inl, inr, arith}
+use Rattle.std.proofs.lemmas.Bool.{cases_eq}
 use Rattle.std.proofs.lemmas.Bool.Decides.{nat_tests}
 use Rattle.frame.specs.Model.{Model, Law}
-use Rattle.frame.specs.Frames.{Whole, judged, judged_whole, written, packet}
-use Rattle.frame.proofs.Whole.{judged_whole_lem}
-use Rattle.frame.specs.declared.faults.Fault.{Fault}
+use Rattle.frame.specs.Frames.{judged_whole, written, packet}
 use Rattle.frame.specs.declared.faults.Fault.TheVariants.{UnknownType}
 use Rattle.control.specs.Interface.{interface}
 use Rattle.control.specs.declared.records.InterfaceMessage.{InterfaceMessage as InterfaceRecord}
@@ -100,15 +98,6 @@ put_together (Climate r) = refl
 put_together (Rain r) = refl
 put_together (Meter r) = refl
 
-pub frame_is : (s : ℕ) (a : Record) → frame_of (packet s a) ≡ written (model (sort_of a)) (packet s (body a))
-frame_is s (Interface r) = refl
-frame_is s (Transmitter r) = refl
-frame_is s (Blinds r) = refl
-frame_is s (Security r) = refl
-frame_is s (Climate r) = refl
-frame_is s (Rain r) = refl
-frame_is s (Meter r) = refl
-
 pub injected : (k : Sort) (s : ℕ) (r : Of k) → frame_of (packet s (inject k r)) ≡ written (model k) (packet s r)
 injected interface_messages s r = refl
 injected transmitter_messages s r = refl
@@ -117,6 +106,9 @@ injected contacts s r = refl
 injected climates s r = refl
 injected rains s r = refl
 injected meters s r = refl
+
+pub frame_is : (s : ℕ) (a : Record) → frame_of (packet s a) ≡ written (model (sort_of a)) (packet s (body a))
+frame_is s a = ap (λ b. frame_of (packet s b)) (sym (put_together a)) ∙ injected (sort_of a) s (body a)
 
 -- the kind of a type number
 abbrev pub named : ℕ → Sort
@@ -148,47 +140,13 @@ verdict_is climates xs h e = grind (arith, nat_tests)
 verdict_is rains xs h e = grind (arith, nat_tests)
 verdict_is meters xs h e = grind (arith, nat_tests)
 
--- two numbers are equal or not
-pub equal : (a b : ℕ) → (a ≡ b) ⊎ (a ≡ b → ⊥)
-equal a b =
-    elim (dec_le a b) [
-      | yes h ↦ elim (dec_le b a) [ yes g ↦ inl (omega arith) | no g ↦ inr (λ e. g (omega arith)) ]
-      | no h ↦ inr (λ e. h (omega arith))
-    ]
-
 -- a type is that of a kind, or unknown
 pub typed : (xs : List ℕ) → 4 ≤ get_or xs 0 0 → ((k : Sort) × (get_or xs 1 0 ≡ (model k).number)) ⊎ (verdict_whole xs ≡ Err UnknownType)
 typed xs h =
-    elim (equal (get_or xs 1 0) 0x01) [
-      | inl e ↦ inl (interface_messages, e)
-      | inr a0 ↦
-          elim (equal (get_or xs 1 0) 0x02) [
-            | inl e ↦ inl (transmitter_messages, e)
-            | inr a1 ↦
-                elim (equal (get_or xs 1 0) 0x19) [
-                  | inl e ↦ inl (blinds_frames, e)
-                  | inr a2 ↦
-                      elim (equal (get_or xs 1 0) 0x20) [
-                        | inl e ↦ inl (contacts, e)
-                        | inr a3 ↦
-                            elim (equal (get_or xs 1 0) 0x54) [
-                              | inl e ↦ inl (climates, e)
-                              | inr a4 ↦
-                                  elim (equal (get_or xs 1 0) 0x55) [
-                                    | inl e ↦ inl (rains, e)
-                                    | inr a5 ↦
-                                        elim (equal (get_or xs 1 0) 0x71) [
-                                          | inl e ↦ inl (meters, e)
-                                          | inr a6 ↦
-                                              inr (grind (arith, nat_tests))
-                                        ]
-                                  ]
-                            ]
-                      ]
-                ]
-          ]
+    let n = get_or xs 1 0 in
+    elim (cases_eq n (model (named n)).number) [
+      | inl e ↦ inl (named n, e)
+      | inr a ↦
+          let no = λ (k : Sort) (e : n ≡ (model k).number). a (e ∙ sym (ap (λ m. (model (named m)).number) e ∙ ap (λ m. (model m).number) (named_is k))) in
+          inr (grind (arith, nat_tests, no interface_messages, no transmitter_messages, no blinds_frames, no contacts, no climates, no rains, no meters))
     ]
-
--- what a kind says of a whole frame of its type is the verdict
-pub arm : (k : Sort) (xs : List ℕ) → Whole xs → 4 ≤ get_or xs 0 0 → get_or xs 1 0 ≡ (model k).number → (v : Result (List ℕ) Fault) → v ≡ judged (model k) xs → v ≡ verdict_whole xs
-arm k xs w h e v j = j ∙ judged_whole_lem (model k) xs w ∙ sym (verdict_is k xs h e)

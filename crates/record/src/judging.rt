@@ -1,10 +1,11 @@
 // The verdict on a whole frame of any kind.
 ghost use Rattle.std.specs.Prelude.{◌≡◌, Ok};
-ghost use Rattle.frame.specs.Frames.{Whole, front_of, packet};
+ghost use Rattle.frame.specs.Frames.{Whole, front_of, judged_whole};
 ghost use Rattle.frame.specs.declared.packet.Packet.{Packet};
 ghost use Rattle.record.specs.declared.records.Record.{Record};
 ghost use Rattle.record.specs.Frames.{frame_of, verdict_of, verdict_whole, told};
 
+use crate::kinds::ReadKind;
 use crate::records::Record;
 use actors::blinds::BlindsKind;
 use actors::security::SecurityKind;
@@ -18,10 +19,15 @@ use sensors::climate::ClimateKind;
 use sensors::meter::MeterKind;
 use sensors::rain::RainKind;
 
-fn found(seq: u8, record: Record) -> Result<Packet<Record>, Fault>
-    ensures { result ≡ Ok (packet seq «record») }
+fn judge_as<K: ReadKind>(frame: &[u8]) -> Result<Packet<Record>, Fault>
+    requires { Whole frame.now }
+    ensures { told result ≡ judged_whole K.Kind.model frame.now }
 {
-    Ok(Packet { seq, record })
+    let p = read_frame::<K>(frame)?;
+    Ok(Packet {
+        seq: p.seq,
+        record: K::wrap(p.record),
+    })
 }
 
 fn judge_whole(frame: &[u8]) -> Result<Packet<Record>, Fault>
@@ -35,34 +41,13 @@ fn judge_whole(frame: &[u8]) -> Result<Packet<Record>, Fault>
         return Err(Fault::NoPayload);
     }
     match *kind {
-        InterfaceKind::TYPE => match read_frame::<InterfaceKind>(frame) {
-            Ok(p) => found(p.seq, Record::Interface(p.record)),
-            Err(fault) => Err(fault),
-        },
-        TransmitterKind::TYPE => match read_frame::<TransmitterKind>(frame) {
-            Ok(p) => found(p.seq, Record::Transmitter(p.record)),
-            Err(fault) => Err(fault),
-        },
-        BlindsKind::TYPE => match read_frame::<BlindsKind>(frame) {
-            Ok(p) => found(p.seq, Record::Blinds(p.record)),
-            Err(fault) => Err(fault),
-        },
-        SecurityKind::TYPE => match read_frame::<SecurityKind>(frame) {
-            Ok(p) => found(p.seq, Record::Security(p.record)),
-            Err(fault) => Err(fault),
-        },
-        ClimateKind::TYPE => match read_frame::<ClimateKind>(frame) {
-            Ok(p) => found(p.seq, Record::Climate(p.record)),
-            Err(fault) => Err(fault),
-        },
-        RainKind::TYPE => match read_frame::<RainKind>(frame) {
-            Ok(p) => found(p.seq, Record::Rain(p.record)),
-            Err(fault) => Err(fault),
-        },
-        MeterKind::TYPE => match read_frame::<MeterKind>(frame) {
-            Ok(p) => found(p.seq, Record::Meter(p.record)),
-            Err(fault) => Err(fault),
-        },
+        InterfaceKind::TYPE => judge_as::<InterfaceKind>(frame),
+        TransmitterKind::TYPE => judge_as::<TransmitterKind>(frame),
+        BlindsKind::TYPE => judge_as::<BlindsKind>(frame),
+        SecurityKind::TYPE => judge_as::<SecurityKind>(frame),
+        ClimateKind::TYPE => judge_as::<ClimateKind>(frame),
+        RainKind::TYPE => judge_as::<RainKind>(frame),
+        MeterKind::TYPE => judge_as::<MeterKind>(frame),
         _ => Err(Fault::UnknownType),
     }
 }
@@ -74,8 +59,5 @@ pub fn judge(bytes: &[u8]) -> Result<Packet<Record>, Fault>
     ensures reads_back { (p : Packet Record) → bytes.now ≡ frame_of p → result ≡ Ok p }
     ensures writes_back { (p : Packet Record) → result ≡ Ok p → front_of bytes.now ≡ Ok (frame_of p) }
 {
-    match front(bytes) {
-        Err(fault) => Err(fault),
-        Ok(frame) => judge_whole(frame),
-    }
+    judge_whole(front(bytes)?)
 }

@@ -2,6 +2,7 @@
 #![tactic(auto)]
 
 pub mod judging;
+pub mod kinds;
 pub mod laws;
 pub mod records;
 pub mod writing;

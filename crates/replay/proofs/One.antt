@@ -1,6 +1,7 @@
 -- Packets and lawful house records are one to one.
 use Rattle.std.proofs.Common.{◌≡◌, ℕ, ◌≤◌, Bool, true, false, cond, ◌&&◌, eqb, leb, List, [], ◌∷◌, length, get_or, drop, Ok, Err, Result, sym, refl, ap, ◌∙◌, subst, inl, inr, arith, eqb-true, leb-true}
 use Rattle.std.proofs.lemmas.List.{drop_more}
+use Rattle.std.proofs.lemmas.Bool.{cases_eq as equal}
 use Rattle.std.proofs.lemmas.Bool.Decides.{nat_tests}
 use Rattle.frame.proofs.Onto.{bytes_drop}
 use Rattle.frame.specs.Fields.{Bytes, at8, at16}
@@ -9,7 +10,7 @@ use Rattle.frame.specs.declared.packet.Packet.{Packet}
 use Rattle.refusal.specs.Output.{Put}
 use Rattle.refusal.specs.declared.refusals.Refusal.{Refusal}
 use Rattle.refusal.specs.declared.refusals.Refusal.TheVariants.{NoHouseRecord}
-use Rattle.record.proofs.Sorts.{Sort, interface_messages, transmitter_messages, blinds_frames, contacts, climates, rains, meters, Of, model, inject, sort_of, body, put_together, named, named_is, equal}
+use Rattle.record.proofs.Sorts.{Sort, interface_messages, transmitter_messages, blinds_frames, contacts, climates, rains, meters, Of, model, inject, sort_of, body, put_together, named, named_is}
 use Rattle.record.specs.Frames.{frame_of}
 use Rattle.record.specs.declared.records.Record.{Record}
 use Rattle.record.specs.declared.records.Record.TheVariants.{Interface, Transmitter, Blinds, Security, Climate, Rain, Meter}
