@@ -22,5 +22,5 @@ pub trait HouseKind: Kind {
     fn write_fields(record: &Self::Record, out: &mut [u8]) -> Result<usize, Refusal>
         ensures { Put (own «record».now) out.old result out.new };
 
-    ghost laid_so: { (seq : ℕ) (r : Self.Record) → laid (fields seq r) ≡ two MAP ++ (Self.model.number ∷ Self.model.sub_of r ∷ seq ∷ own r) };
+    ghost laid_so: { (seq : ℕ) (r : Self.Record) → laid (fields seq r) ≡ two MAP ++ (Self.TYPE ∷ Self.model.sub_of r ∷ seq ∷ own r) };
 }

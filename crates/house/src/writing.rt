@@ -27,7 +27,7 @@ fn write_as<K: HouseKind>(seq: u8, record: &K::Record, out: &mut [u8]) -> Result
     }
     let size = K::write_fields(record, &mut out[HEAD..])?;
     let [map0, map1] = K::MAP.to_be_bytes();
-    out[..HEAD].copy_from_slice(&[map0, map1, K::type_number(), K::subtype(record), seq]);
+    out[..HEAD].copy_from_slice(&[map0, map1, K::TYPE, K::subtype(record), seq]);
     Ok(HEAD + size)
 }
 
