@@ -125,6 +125,11 @@ abbrev pub contents : List Field → List ℕ
 contents [] = []
 contents (f ∷ fs) = f.bytes ++ contents fs
 
+-- the bytes of the fields behind the first
+abbrev pub behind : List Field → List ℕ
+behind [] = []
+behind (f ∷ fs) = contents fs
+
 -- the map in two bytes, and the fields without gaps
 abbrev pub laid : List Field → List ℕ
 laid fs = two (map_of fs) ++ contents fs

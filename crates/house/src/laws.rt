@@ -1,9 +1,7 @@
 // The laws of house records.
 ghost use Rattle.house.specs.Laws.{FieldsStandInOrder, NoHouseRecordIsLongerThan};
 
-pub fn house_maps_stand() -> u8
+pub fn house_maps_stand()
     ensures order { FieldsStandInOrder }
     ensures size { NoHouseRecordIsLongerThan 18 }
-{
-    0
-}
+{}

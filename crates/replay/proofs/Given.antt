@@ -1,8 +1,14 @@
--- What is given of a house record whose fields are lawful.
-use Rattle.std.proofs.Common.{◌≡◌, ℕ, Bool, true, List, ◌∷◌, Ok, Result, sym, ap, ◌∙◌}
+-- A reading of a frame's data, as a reading of the fields that these data were made of.
+use Rattle.std.proofs.Common.{◌≡◌, ℕ, Bool, true, false, List, ◌∷◌, Ok, Err, Result, arith}
 use Rattle.refusal.specs.declared.refusals.Refusal.{Refusal}
-use Rattle.replay.specs.Back.{given}
+use Rattle.frame.specs.Model.{Model}
+use Rattle.replay.specs.Back.{given, as_fields}
 
--- a record of this subtype with these fields
-pub given_it : (ok : Bool) {a b n u s q : ℕ} {zs ys : List ℕ} → ok ≡ true → u ≡ s → zs ≡ ys → ◌≡◌ {A = Result (List ℕ) Refusal} (Ok (a ∷ b ∷ n ∷ u ∷ q ∷ zs)) (given ok (a ∷ b ∷ n ∷ s ∷ q ∷ ys))
-given_it ok {a} {b} {n} {u} {s} {q} {zs} {ys} e f g = (λ i. Ok (a ∷ b ∷ n ∷ f i ∷ q ∷ g i)) ∙ sym (ap (λ t. given t (a ∷ b ∷ n ∷ s ∷ q ∷ ys)) e)
+module _ {R : Type 0} (m : Model R) (own : R → List ℕ) (s : ℕ) (ds ys : List ℕ) where
+  pub of_data : (ok law : Bool) (t : Result R Refusal) → as_fields m.sub_of m.bytes t ≡ given ok (s ∷ ds) → law ≡ ok → (law ≡ true → (r : R) → m.bytes r ≡ ds → own r ≡ ys) → as_fields m.sub_of own t ≡ given law (s ∷ ys)
+  of_data true true (Ok r) e l back = let sub : m.sub_of r ≡ s = cc in let fields = back l r (cc) in λ i. Ok (sub i ∷ fields i)
+  of_data false false (Err x) e l back = cc
+  of_data true true (Err x) e l back = let z : ◌≡◌ {A = ℕ} 0 1 = cc in absurd (omega arith)
+  of_data false false (Ok r) e l back = let z : ◌≡◌ {A = ℕ} 0 1 = cc in absurd (omega arith)
+  of_data true false t e l back = let z : ◌≡◌ {A = ℕ} 0 1 = cc in absurd (omega arith)
+  of_data false true t e l back = let z : ◌≡◌ {A = ℕ} 0 1 = cc in absurd (omega arith)

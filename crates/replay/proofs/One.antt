@@ -1,5 +1,6 @@
 -- Packets and lawful house records are one to one.
-use Rattle.std.proofs.Common.{◌≡◌, ℕ, ◌≤◌, Bool, true, false, cond, ◌&&◌, eqb, leb, List, [], ◌∷◌, length, get_or, drop, Ok, Err, Result, sym, refl, ap, ◌∙◌, subst, inl, inr, arith, eqb-true, leb-true}
+use Rattle.std.proofs.Common.{◌≡◌, ℕ, ◌<◌, ◌≤◌, Bool, true, false, cond, ◌&&◌, eqb, leb, List, length, get_or, drop, Some, Ok, Err, Result, sym, refl, ap, ◌∙◌, subst, inl, inr, arith, eqb-true, leb-true, le-leb}
+use borrow.Author.Tests.{lt-leb}
 use Rattle.std.proofs.lemmas.List.{drop_more}
 use Rattle.std.proofs.lemmas.Bool.{cases_eq as equal}
 use Rattle.std.proofs.lemmas.Bool.Decides.{nat_tests}
@@ -14,15 +15,34 @@ use Rattle.record.proofs.Sorts.{Sort, interface_messages, transmitter_messages, 
 use Rattle.record.specs.Frames.{frame_of}
 use Rattle.record.specs.declared.records.Record.{Record}
 use Rattle.record.specs.declared.records.Record.TheVariants.{Interface, Transmitter, Blinds, Security, Climate, Rain, Meter}
-use Rattle.house.specs.House.{two, house_of}
-use Rattle.replay.specs.Back.{map_by, headed, lawful_by, lawful, given, house_verdict, housed}
+use Rattle.house.specs.House.{house_of}
+use Rattle.replay.specs.Back.{map_by, is_map, headed, lawful_by, lawful, given, house_verdict, housed}
 use Rattle.replay.specs.Laws.{EachPacketsHouseRecordIsLawful, NoTwoPacketsHaveOneHouseRecord, EachLawfulHouseRecordIsAPackets, AFrameComesBack}
 use Rattle.replay.proofs.Numbers.{two_at}
 use Rattle.replay.proofs.EachKind.{behind, kind_lawful, kind_one, kind_onto}
 
+-- the map of a kind
+abbrev mapped : Sort → ℕ
+mapped interface_messages = 0x2001
+mapped transmitter_messages = 0x0009
+mapped blinds_frames = 0x180F
+mapped contacts = 0x180B
+mapped climates = 0x1873
+mapped rains = 0x1883
+mapped meters = 0x1403
+
+maps_to : (k : Sort) → map_by (model k).number ≡ Some (mapped k)
+maps_to interface_messages = refl
+maps_to transmitter_messages = refl
+maps_to blinds_frames = refl
+maps_to contacts = refl
+maps_to climates = refl
+maps_to rains = refl
+maps_to meters = refl
+
 -- the house record of a packet of a kind
 abbrev laid_out : (k : Sort) → ℕ → Of k → List ℕ
-laid_out k seq r = headed (model k).number ((model k).sub_of r) seq (behind k r)
+laid_out k seq r = headed (mapped k) (model k).number ((model k).sub_of r) seq (behind k r)
 
 house_is : (seq : ℕ) (a : Record) → house_of (packet seq a) ≡ laid_out (sort_of a) seq (body a)
 house_is seq (Interface r) = refl
@@ -43,7 +63,7 @@ injected rains seq r = refl
 injected meters seq r = refl
 
 -- what a kind's fields are with their map, type, subtype and sequence number before them
-headed_lawful : (k : Sort) (s seq : ℕ) (ys : List ℕ) → lawful_by (model k).number s ys ≡ true → lawful (headed (model k).number s seq ys) ≡ true
+headed_lawful : (k : Sort) (s seq : ℕ) (ys : List ℕ) → lawful_by (model k).number s ys ≡ true → lawful (headed (mapped k) (model k).number s seq ys) ≡ true
 headed_lawful interface_messages s seq ys h = grind (arith, nat_tests)
 headed_lawful transmitter_messages s seq ys h = grind (arith, nat_tests)
 headed_lawful blinds_frames s seq ys h = grind (arith, nat_tests)
@@ -77,10 +97,10 @@ house_one p q e =
     let whole = one_kind k l same p.seq q.seq (body p.«record») (body q.«record») f in
     ap (packet p.seq) (sym (put_together p.«record»)) ∙ whole ∙ ap (packet q.seq) (put_together q.«record»)
 
--- bytes whose map is that of their type
-pub headed_is : (xs : List ℕ) → Bytes xs → 5 ≤ length xs → at16 xs 0 ≡ map_by (at8 xs 2) → headed (at8 xs 2) (at8 xs 3) (at8 xs 4) (drop 5 xs) ≡ xs
-headed_is xs b h e =
-    let m : two (map_by (at8 xs 2)) ≡ at8 xs 0 ∷ at8 xs 1 ∷ [] = ap two (sym e) ∙ two_at (at8 xs 0) (at8 xs 1) (b 0) (b 1) in
+-- the map, type, subtype and sequence number of some bytes, and the fields behind them
+pub headed_is : (xs : List ℕ) → Bytes xs → 5 ≤ length xs → headed (at16 xs 0) (at8 xs 2) (at8 xs 3) (at8 xs 4) (drop 5 xs) ≡ xs
+headed_is xs b h =
+    let m = two_at (at8 xs 0) (at8 xs 1) (b 0) (b 1) in
     let e0 = drop_more xs 0 0 (omega arith) in
     let e1 = drop_more xs 1 0 (omega arith) in
     let e2 = drop_more xs 2 0 (omega arith) in
@@ -129,15 +149,25 @@ all_hold false b c h = let z : ◌≡◌ {A = ℕ} 0 1 = cc in absurd (omega ari
 
 pub house_onto : EachLawfulHouseRecordIsAPackets
 house_onto xs b h =
-    let all = all_hold (leb 5 (length xs)) (eqb (at16 xs 0) (map_by (at8 xs 2))) (lawful_by (at8 xs 2) (at8 xs 3) (drop 5 xs)) h in
+    let all = all_hold (leb 5 (length xs)) (is_map (map_by (at8 xs 2)) (at16 xs 0)) (lawful_by (at8 xs 2) (at8 xs 3) (drop 5 xs)) h in
     let long = leb-true 5 (length xs) all.0 in
-    let map = eqb-true (at16 xs 0) (map_by (at8 xs 2)) all.1 in
     let law = all.2 in
     let k = typed (at8 xs 2) (at8 xs 3) (drop 5 xs) law in
+    let is : map_by (at8 xs 2) ≡ Some (mapped k.0) = ap map_by k.1 ∙ maps_to k.0 in
+    let map = eqb-true (at16 xs 0) (mapped k.0) (sym (ap (λ o. is_map o (at16 xs 0)) is) ∙ all.1) in
     let o = kind_onto k.0 (at8 xs 3) (drop 5 xs) (bytes_drop 5 xs b) (subst (λ n. lawful_by n (at8 xs 3) (drop 5 xs) ≡ true) k.1 law) in
     let q = at8 xs 4 in
-    let same : laid_out k.0 q o.0 ≡ headed (at8 xs 2) (at8 xs 3) q (drop 5 xs) = λ i. headed (sym k.1 i) (o.1 i) q (o.2 i) in
-    (packet q (inject k.0 o.0), injected k.0 q o.0 ∙ same ∙ headed_is xs b long map)
+    let same : laid_out k.0 q o.0 ≡ headed (at16 xs 0) (at8 xs 2) (at8 xs 3) q (drop 5 xs) = λ i. headed (sym map i) (sym k.1 i) (o.1 i) q (o.2 i) in
+    (packet q (inject k.0 o.0), injected k.0 q o.0 ∙ same ∙ headed_is xs b long)
+
+-- bytes that are too few are refused; of others the map and the fields decide
+pub short_refused : (xs : List ℕ) → length xs < 5 → Err NoHouseRecord ≡ house_verdict xs
+short_refused xs h = sym (ap (λ t. given (t && is_map (map_by (at8 xs 2)) (at16 xs 0) && lawful_by (at8 xs 2) (at8 xs 3) (drop 5 xs)) xs) (lt-leb 5 (length xs) h))
+
+pub long_verdict : (xs : List ℕ) → Bytes xs → 5 ≤ length xs → given (is_map (map_by (at8 xs 2)) (at16 xs 0) && lawful_by (at8 xs 2) (at8 xs 3) (drop 5 xs)) (headed (at16 xs 0) (at8 xs 2) (at8 xs 3) (at8 xs 4) (drop 5 xs)) ≡ house_verdict xs
+long_verdict xs b h =
+    ap (given (is_map (map_by (at8 xs 2)) (at16 xs 0) && lawful_by (at8 xs 2) (at8 xs 3) (drop 5 xs))) (headed_is xs b h)
+    ∙ sym (ap (λ t. given (t && is_map (map_by (at8 xs 2)) (at16 xs 0) && lawful_by (at8 xs 2) (at8 xs 3) (drop 5 xs)) xs) (le-leb 5 (length xs) h))
 
 -- what is given is what was asked for
 given_is : (b : Bool) (xs ys : List ℕ) → Ok ys ≡ given b xs → ys ≡ xs

@@ -1,5 +1,6 @@
 -- Which bytes are a house record, and what is read of them (docs/HOUSE.md).
-use Rattle.std.specs.Prelude.{◌≡◌, ℕ, ◌+◌, ◌-◌, Bool, false, cond, ◌&&◌, List, ◌∷◌, ◌++◌, length, drop, ℤ, pos, negsuc, Ok, Err, Result, ◌==◌, nat_le, nat_lt}
+use Rattle.std.specs.Prelude.{◌≡◌, ℕ, ◌+◌, ◌-◌, Bool, true, false, cond, ◌&&◌, List, ◌∷◌, ◌++◌, length, drop, ℤ, pos, negsuc, Some, None, Option, Ok, Err, Result, ◌==◌, nat_le, nat_lt}
+use Rattle.frame.specs.Faults.{Verdict}
 use Rattle.frame.specs.Fields.{at8, at16, at24, at32}
 use Rattle.frame.specs.declared.packet.Packet.{Packet}
 use Rattle.refusal.specs.Output.{Put}
@@ -45,20 +46,25 @@ rain_lawful s ys = length ys == 11 && rain_ok s (at32 ys 0) (at16 ys 4) (at24 ys
 abbrev pub meter_lawful : ℕ → List ℕ → Bool
 meter_lawful s ys = length ys == 9 && meter_ok s (at32 ys 0) (at32 ys 4) (at8 ys 8)
 
--- the map of a type; 0 where no kind has this type
-abbrev pub map_by : ℕ → ℕ
+-- the map of a type, where a kind has this type
+abbrev pub map_by : ℕ → Option ℕ
 map_by number =
-    cond (number == 0x01) 0x2001
-    (cond (number == 0x02) 0x0009
-    (cond (number == 0x19) 0x180F
-    (cond (number == 0x20) 0x180B
-    (cond (number == 0x54) 0x1873
-    (cond (number == 0x55) 0x1883
-    (cond (number == 0x71) 0x1403 0))))))
+    cond (number == 0x01) (Some 0x2001)
+    (cond (number == 0x02) (Some 0x0009)
+    (cond (number == 0x19) (Some 0x180F)
+    (cond (number == 0x20) (Some 0x180B)
+    (cond (number == 0x54) (Some 0x1873)
+    (cond (number == 0x55) (Some 0x1883)
+    (cond (number == 0x71) (Some 0x1403) None))))))
 
--- these fields with their map, type, subtype and sequence number
-abbrev pub headed : ℕ → ℕ → ℕ → List ℕ → List ℕ
-headed number s seq ys = two (map_by number) ++ (number ∷ s ∷ seq ∷ ys)
+-- a map is just this one
+abbrev pub is_map : Option ℕ → ℕ → Bool
+is_map (Some m) map = map == m
+is_map None map = false
+
+-- these fields with a map, type, subtype and sequence number
+abbrev pub headed : ℕ → ℕ → ℕ → ℕ → List ℕ → List ℕ
+headed map number s seq ys = two map ++ (number ∷ s ∷ seq ∷ ys)
 
 -- by the type, which fields are lawful
 abbrev pub lawful_by : ℕ → ℕ → List ℕ → Bool
@@ -73,7 +79,7 @@ lawful_by number s ys =
 
 -- map, type, subtype and sequence number are there, the map is that of the type, and the fields behind them are lawful
 abbrev pub lawful : List ℕ → Bool
-lawful xs = nat_le 5 (length xs) && at16 xs 0 == map_by (at8 xs 2) && lawful_by (at8 xs 2) (at8 xs 3) (drop 5 xs)
+lawful xs = nat_le 5 (length xs) && is_map (map_by (at8 xs 2)) (at16 xs 0) && lawful_by (at8 xs 2) (at8 xs 3) (drop 5 xs)
 
 -- the house record of these very bytes, where they are lawful
 abbrev pub given : Bool → List ℕ → Result (List ℕ) Refusal
@@ -81,6 +87,16 @@ given ok xs = cond ok (Ok xs) (Err NoHouseRecord)
 
 abbrev pub house_verdict : List ℕ → Result (List ℕ) Refusal
 house_verdict xs = given (lawful xs) xs
+
+abbrev pub passes : Verdict → Bool
+passes (Ok u) = true
+passes (Err f) = false
+
+-- a reading of a kind's own fields, with the record as its subtype and these fields
+module _ {R : Type 0} where
+  abbrev pub as_fields : (R → ℕ) → (R → List ℕ) → Result R Refusal → Result (List ℕ) Refusal
+  as_fields sub_of own (Ok r) = Ok (sub_of r ∷ own r)
+  as_fields sub_of own (Err e) = Err e
 
 -- a reading, with the packet as its house record
 abbrev pub housed : Result (Packet Record) Refusal → Result (List ℕ) Refusal

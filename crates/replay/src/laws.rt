@@ -2,11 +2,9 @@
 ghost use Rattle.replay.specs.Laws.{EachPacketsHouseRecordIsLawful, NoTwoPacketsHaveOneHouseRecord, EachLawfulHouseRecordIsAPackets, AFrameComesBack};
 
 // Packets and lawful house records are one to one.
-pub fn house_records_are_packets() -> u8
+pub fn house_records_are_packets()
     ensures lawful { EachPacketsHouseRecordIsLawful }
     ensures one { NoTwoPacketsHaveOneHouseRecord }
     ensures onto { EachLawfulHouseRecordIsAPackets }
     ensures back { AFrameComesBack }
-{
-    0
-}
+{}

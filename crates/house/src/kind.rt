@@ -1,0 +1,26 @@
+// What a packet kind shows for its house record: the map, and the fields behind type, subtype and sequence number.
+ghost use Rattle.std.specs.Prelude.{◌≡◌, ℕ, List, ◌∷◌, ◌++◌};
+ghost use Rattle.refusal.specs.Output.{Put};
+ghost use Rattle.house.specs.House.{Field, two, laid};
+
+use frame::kind::Kind;
+use refusal::refusals::Refusal;
+
+pub trait HouseKind: Kind {
+    // Which fields the kind has: bit n is the field n of docs/HOUSE.md.
+    const MAP: u16;
+
+    ghost MAP: { ℕ };
+
+    // All its fields, with the sequence number first.
+    ghost fields: { ℕ → Self.Record → List Field };
+
+    // The bytes of the fields behind type, subtype and sequence number.
+    ghost own: { Self.Record → List ℕ };
+
+    // Puts the fields behind type, subtype and sequence number at the front of the buffer.
+    fn write_fields(record: &Self::Record, out: &mut [u8]) -> Result<usize, Refusal>
+        ensures { Put (own «record».now) out.old result out.new };
+
+    ghost laid_so: { (seq : ℕ) (r : Self.Record) → laid (fields seq r) ≡ two MAP ++ (Self.TYPE ∷ Self.model.sub_of r ∷ seq ∷ own r) };
+}
