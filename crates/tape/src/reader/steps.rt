@@ -31,12 +31,12 @@ impl TapeReader {
         self.signals = self.signals.checked_add(1).ok_or(TapeFull)?;
         match (self.held, signal) {
             (held, Signal::Byte(b)) => {
-                self.begun[held] = b;
-                if held < self.begun[0] as usize {
+                self.begun[held as usize] = b;
+                if held < self.begun[0] {
                     self.held = held + 1;
                     return Ok(None);
                 }
-                let verdict = judge(&self.begun[0..held + 1]);
+                let verdict = judge(&self.begun[0..held as usize + 1]);
                 let place = self.place;
                 self.place = place + held as u32 + 1;
                 self.held = 0;
@@ -47,7 +47,7 @@ impl TapeReader {
                 let place = self.place;
                 self.place = place + held as u32;
                 self.held = 0;
-                let verdict = Err(Fault::Cut(held as u8));
+                let verdict = Err(Fault::Cut(held));
                 Ok(Some(Entry { place, verdict }))
             }
         }
@@ -85,6 +85,6 @@ impl TapeReader {
     pub fn begun(&self) -> u8
         ensures { result ≡ (model self.now).held }
     {
-        self.held as u8
+        self.held
     }
 }
