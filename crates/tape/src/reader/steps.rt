@@ -36,7 +36,7 @@ impl TapeReader {
                     self.held = held + 1;
                     return Ok(None);
                 }
-                let verdict = judge(&self.begun[0..held as usize + 1]);
+                let verdict = judge(&self.begun[..=held as usize]);
                 let place = self.place;
                 self.place = place + held as u32 + 1;
                 self.held = 0;

@@ -12,9 +12,7 @@ returns-then-held-self-clause-took c =
 -- the byte ends a frame
 pub returns-else-held-self-clause-took : goal.returns-else-held-self-clause-took
 returns-else-held-self-clause-took c =
-    let size : c.args.self.now.held + 1 - 0 ≡ c.args.self.now.held + 1 = omega arith in
-    λ t es F. took_full t es _ _ _ F (grind (arith, nat_tests)) (omega arith) (grind (arith, nat_tests)) _ _ c.in_default-Byte.is-1 c.if-held-self.false refl
-    (c.judge-verdict.ensures.verdict ∙ ap (λ n. verdict_of (take n (set c.args.self.now.begun c.args.self.now.held c.in_default-Byte.b))) size) refl refl
+    λ t es F. took_full t es _ _ _ F (grind (arith, nat_tests)) (omega arith) (grind (arith, nat_tests)) _ _ c.in_default-Byte.is-1 c.if-held-self.false refl c.judge-verdict.ensures.verdict refl refl
 
 -- a pause where nothing is begun
 pub returns-in-0-Pause-clause-took : goal.returns-in-0-Pause-clause-took
