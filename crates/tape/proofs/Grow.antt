@@ -1,6 +1,5 @@
 -- How a reading grows with the tape: one lemma for each thing that a signal does.
-use Rattle.std.proofs.Common.{◌≡◌, ℕ, zero, suc, ◌+◌, ◌<◌, ◌≤◌, ◌⊎◌, List, [], ◌∷◌, ◌++◌, map, length, get_or, take, sym, refl, ap, ◌∙◌, subst, inl, inr, append_assoc, append-nil, arith, length-append, length-take-le, take_all, get_or-take, take-suc}
-use native.Mathlib.Decide.{dec_lt}
+use Rattle.std.proofs.Common.{◌≡◌, ℕ, zero, suc, ◌+◌, ◌<◌, ◌≤◌, List, [], ◌∷◌, ◌++◌, map, length, get_or, take, sym, refl, ap, ◌∙◌, subst, append_assoc, append-nil, arith, length-append, length-take-le, take_all, get_or-take, take-suc}
 use Rattle.std.proofs.lemmas.List.{map-append}
 use Rattle.tape.specs.declared.signals.Signal.{Signal}
 use Rattle.tape.specs.declared.signals.Signal.TheVariants.{Byte, Pause}
@@ -69,9 +68,6 @@ grow_pause {p} {t} {es} {q} {r} (last {bs = bs} eq P) =
 grow_pause {p} {t} (stretch {bs = bs} {after = after} {es = es} {more = more} {q = q} {r = r} eq P R) =
     retold (regroup es (cut q r) more _)
     (stretch (ap (λ x. x ++ Pause ∷ []) eq ∙ append_assoc (map Byte bs) (Pause ∷ after) (Pause ∷ [])) P (grow_pause R))
-
-pub order : (m n : ℕ) → m ≤ n → (m < n) ⊎ (m ≡ n)
-order m n h = elim (dec_lt m n) [ yes l ↦ inl l | no g ↦ inr (omega arith) ]
 
 -- the tape that has no signal
 pub reads_none : Reads 0 [] [] 0 []

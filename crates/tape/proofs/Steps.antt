@@ -1,5 +1,5 @@
 -- What each kind of step does to the reading.
-use Rattle.std.proofs.Common.{◌≡◌, ℕ, suc, ◌+◌, ◌<◌, ◌≤◌, true, false, cond, List, [], ◌∷◌, ◌++◌, map, length, get_or, take, set, Ok, Err, Some, None, Result, Option, sym, refl, ap, ◌∙◌, subst, append-nil, arith, length-append, length-take-le, get_or-take, eq-eqb, ne_eqb}
+use Rattle.std.proofs.Common.{◌≡◌, ℕ, suc, ◌+◌, ◌<◌, ◌≤◌, false, cond, List, [], ◌∷◌, ◌++◌, map, length, get_or, take, set, Ok, Err, Some, None, Result, Option, sym, refl, ap, ◌∙◌, subst, append-nil, arith, length-append, length-take-le, get_or-take, ne_eqb}
 use Rattle.std.proofs.lemmas.List.{take_more_set, length_push, length-map}
 use Rattle.frame.specs.declared.faults.Fault.TheVariants.{Cut}
 use Rattle.record.specs.Frames.{verdict_of, told}
@@ -17,15 +17,6 @@ moved {t} {es} {q} {q'} {r} {r'} e f R = subst (λ l. Reads 0 t es q' l) f (subs
 
 pub follows_none : (x : Held) → x.held ≡ 0 → x.place ≡ 0 → x.signals ≡ 0 → Follows [] [] x
 follows_none x h p s = record { reads = moved (sym p) (ap (λ n. take n x.bytes) (sym h)) reads_none; count = sym s }
-
--- a signal that the tape has no room for
-pub took_refused : (t : List Signal) (es : List Entry) (s : Signal) (x : Held) → Follows t es x → x.signals ≡ limit → (f : TapeFull) → Took t es s (Err f) x
-took_refused t es s x F e f =
-    let shut : full t ≡ true = eq-eqb (length t) limit (F.count ∙ e) in
-    record {
-      refuses = sym shut;
-      follows = subst (λ v. Follows (cond v t (t ++ s ∷ [])) (es ++ []) x) (sym shut) (subst (λ l. Follows t l x) (sym (append-nil es)) F);
-    }
 
 module _ (t : List Signal) (es : List Entry) (s : Signal) (x y : Held) (F : Follows t es x) (room : x.signals ≡ limit → ⊥) (fits : x.held < length x.bytes) (counts : y.signals ≡ x.signals + 1) where
   -- a signal that the tape has room for

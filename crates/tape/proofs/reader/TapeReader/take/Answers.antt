@@ -1,6 +1,5 @@
-use Rattle.std.proofs.Common.{◌≡◌, ◌+◌, ◌-◌, take, set, refl, ap, ◌∙◌, arith}
+use Rattle.std.proofs.Common.{refl, arith}
 use Rattle.std.proofs.lemmas.Bool.Decides.{nat_tests}
-use Rattle.record.specs.Frames.{verdict_of}
 use Rattle.tape.proofs.Steps.{took_more, took_full, took_quiet, took_cut}
 use Rattle.tape.proofs.reader.TapeReader.take.Goals as goal
 
