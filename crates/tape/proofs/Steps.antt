@@ -1,5 +1,6 @@
 -- What each kind of step does to the reading.
 use Rattle.std.proofs.Common.{◌≡◌, ℕ, ◌+◌, ◌<◌, ◌≤◌, false, cond, List, [], ◌∷◌, ◌++◌, map, length, get_or, take, set, Ok, Err, Some, None, Result, Option, sym, refl, ap, ◌∙◌, subst, append-nil, arith, length-append, length-take-le, get_or-take, ne_eqb}
+use Rattle.std.proofs.Math.Path.{transport}
 use Rattle.std.proofs.lemmas.List.{take_more_set, length_push, length-map}
 use Rattle.frame.specs.declared.faults.Fault.{Fault}
 use Rattle.frame.specs.declared.faults.Fault.TheVariants.{Cut}
@@ -11,11 +12,11 @@ use Rattle.tape.specs.declared.signals.Signal.TheVariants.{Byte, Pause}
 use Rattle.tape.specs.declared.signals.Entry.{Entry}
 use Rattle.tape.specs.Reading.{cut, Reads}
 use Rattle.tape.specs.Follow.{limit, full, gained, Held, Follows, Took}
-use Rattle.tape.proofs.Grow.{len_byte, held, grow_more, grow_full, grow_pause, grow_frame, retold, reads_none}
+use Rattle.tape.proofs.Grow.{len_byte, held, grow_more, grow_full, grow_pause, grow_frame, reads_none}
 
 -- a reading, its place and its frame begun written another way
 pub moved : {t : List Signal} {es : List Entry} {q q' : ℕ} {r r' : List ℕ} → q ≡ q' → r ≡ r' → Reads 0 t es q r → Reads 0 t es q' r'
-moved {t} {es} {q} {q'} {r} {r'} e f R = subst (λ l. Reads 0 t es q' l) f (subst (λ n. Reads 0 t es n r) e R)
+moved {t} {es} e f R = transport (λ i. Reads 0 t es (e i) (f i)) R
 
 pub follows_none : (bs : List ℕ) → Follows [] [] (record { bytes = bs; held = 0; place = 0; signals = 0 })
 follows_none bs = record { reads = reads_none; count = refl }
@@ -26,7 +27,7 @@ module _ (t : List Signal) (es : List Entry) (s : Signal) (x : Held) (n : ℕ) (
   took : (o : Option Entry) (y : Held) {v : Signal} {fs : List Entry} {q : ℕ} {f : List ℕ} → y.signals ≡ n → s ≡ v → Reads 0 (t ++ v ∷ []) fs q f → fs ≡ es ++ gained (Ok o) → q ≡ y.place → f ≡ take y.held y.bytes → Took t es s (Ok o) y
   took o y ys e R gains at begun =
       let free : full t ≡ false = ne_eqb (length t) limit (λ z. omega (arith, F.count)) in
-      let reads = subst (λ v. Reads 0 (t ++ v ∷ []) (es ++ gained (Ok o)) y.place (take y.held y.bytes)) (sym e) (retold gains (moved at begun R)) in
+      let reads = transport (λ i. Reads 0 (t ++ sym e i ∷ []) (gains i) (at i) (begun i)) R in
       record {
         refuses = sym free;
         follows = subst (λ v. Follows (cond v t (t ++ s ∷ [])) (es ++ gained (Ok o)) y) (sym free) (record { reads = reads; count = omega (arith, length_push t s, F.count) });
