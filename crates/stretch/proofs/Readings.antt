@@ -1,5 +1,6 @@
 -- The reading of a stretch, part by part.
 use Rattle.std.proofs.Common.{◌≡◌, ℕ, suc, ◌+◌, ◌<◌, ◌≤◌, List, [], ◌∷◌, ◌++◌, length, get_or, sym, refl, ap, ◌∙◌, subst, arith, length-append}
+use Rattle.std.proofs.Math.Path.{transport}
 use Rattle.tape.specs.declared.signals.Entry.{Entry}
 use Rattle.tape.specs.Reading.{Tells, Parts}
 use Rattle.tape.proofs.Lists.{nil_cons, same_cut}
@@ -8,8 +9,7 @@ use Rattle.stretch.proofs.Calls.{Front}
 
 -- the same reading, its numbers and lists written another way
 pub rewritten : {p p' : ℕ} {s s' : List ℕ} {es : List Entry} {q q' : ℕ} {r r' : List ℕ} → p ≡ p' → s ≡ s' → q ≡ q' → r ≡ r' → Parts p s es q r → Parts p' s' es q' r'
-rewritten {p} {p'} {s} {s'} {es} {q} {q'} {r} {r'} a b c d P =
-    subst (λ l. Parts p' s' es q' l) d (subst (λ n. Parts p' s' es n r) c (subst (λ l. Parts p' l es q r) b (subst (λ n. Parts n s es q r) a P)))
+rewritten {es = es} a b c d P = transport (λ i. Parts (a i) (b i) es (c i) (d i)) P
 
 -- a frame before a reading
 pub put_before : {x y : Left} (f : List ℕ) {e : Entry} {es : List Entry} {q : ℕ} {r : List ℕ} → Front x f y → Tells x.place f e → Parts y.place y.rest es q r → Parts x.place x.rest (e ∷ es) q r

@@ -1,5 +1,6 @@
 -- Each tape has a reading.
 use Rattle.std.proofs.Common.{ℕ, zero, suc, ◌+◌, ◌<◌, List, [], ◌∷◌, ◌++◌, length, sym, refl, subst, inl, inr, append_assoc, append-nil, arith}
+use Rattle.std.proofs.Math.Nat.{eq-or-lt_of_le}
 use lib.Seq.{append_snoc}
 use Rattle.frame.specs.Fields.{Bytes}
 use Rattle.record.proofs.One.{judged_some}
@@ -8,7 +9,7 @@ use Rattle.tape.specs.declared.signals.Signal.TheVariants.{Byte, Pause}
 use Rattle.tape.specs.declared.signals.Entry.{Entry}
 use Rattle.tape.specs.Reading.{Tells, cut, Reads}
 use Rattle.tape.specs.Laws.{OfBytes}
-use Rattle.tape.proofs.Grow.{order, len_byte, held, grow_more, grow_full, grow_pause, retold, reads_none}
+use Rattle.tape.proofs.Grow.{len_byte, held, grow_more, grow_full, grow_pause, retold, reads_none}
 
 pub bytes_push : (r : List ℕ) (b : ℕ) → Bytes r → b < 256 → Bytes (r ++ b ∷ [])
 bytes_push [] b h l zero = l
@@ -33,9 +34,9 @@ pub record From (es : List Entry) (t : List Signal) : Type 0 where
 -- the reading of a tape with one more signal
 next : (es : List Entry) (t : List Signal) (s : Signal) → OfBytes (s ∷ []) → From es t → From es (t ++ s ∷ [])
 next es t (Byte b) o R =
-    elim (order (length R.begun) (len_byte R.begun b) (held R.reads b)) [
-      | inl h ↦ record { more = R.more; front = R.front; begun = R.begun ++ b ∷ []; bytes = bytes_push R.begun b R.bytes o.0; reads = grow_more R.reads b h }
-      | inr h ↦
+    elim (eq-or-lt_of_le (held R.reads b)) [
+      | inr h ↦ record { more = R.more; front = R.front; begun = R.begun ++ b ∷ []; bytes = bytes_push R.begun b R.bytes o.0; reads = grow_more R.reads b h }
+      | inl h ↦
           let e = tells_some R.front (R.begun ++ b ∷ []) (bytes_push R.begun b R.bytes o.0) in
           record { more = R.more ++ e.0 ∷ []; front = R.front + suc (len_byte R.begun b); begun = []; bytes = λ i. omega arith; reads = retold (append_assoc es R.more (e.0 ∷ [])) (grow_full R.reads b h e.0 e.1) }
     ]

@@ -1,6 +1,6 @@
 -- How a reading grows with the tape: one lemma for each thing that a signal does.
-use Rattle.std.proofs.Common.{◌≡◌, ℕ, zero, suc, ◌+◌, ◌<◌, ◌≤◌, ◌⊎◌, List, [], ◌∷◌, ◌++◌, map, length, get_or, take, sym, refl, ap, ◌∙◌, subst, inl, inr, append_assoc, append-nil, arith, length-append, length-take-le, take_all, get_or-take, take-suc}
-use native.Mathlib.Decide.{dec_lt}
+use Rattle.std.proofs.Common.{◌≡◌, ℕ, zero, suc, ◌+◌, ◌<◌, ◌≤◌, List, [], ◌∷◌, ◌++◌, map, length, get_or, take, sym, refl, ap, ◌∙◌, subst, append_assoc, append-nil, arith, length-append, length-take-le, take_all, get_or-take, take-suc}
+use Rattle.std.proofs.Math.Path.{transport}
 use Rattle.std.proofs.lemmas.List.{map-append}
 use Rattle.tape.specs.declared.signals.Signal.{Signal}
 use Rattle.tape.specs.declared.signals.Signal.TheVariants.{Byte, Pause}
@@ -70,9 +70,6 @@ grow_pause {p} {t} (stretch {bs = bs} {after = after} {es = es} {more = more} {q
     retold (regroup es (cut q r) more _)
     (stretch (ap (λ x. x ++ Pause ∷ []) eq ∙ append_assoc (map Byte bs) (Pause ∷ after) (Pause ∷ [])) P (grow_pause R))
 
-pub order : (m n : ℕ) → m ≤ n → (m < n) ⊎ (m ≡ n)
-order m n h = elim (dec_lt m n) [ yes l ↦ inl l | no g ↦ inr (omega arith) ]
-
 -- the tape that has no signal
 pub reads_none : Reads 0 [] [] 0 []
 reads_none = last {bs = []} refl none
@@ -86,8 +83,8 @@ grow_front {t} {es} {q} R f (suc j) h g =
     let len : len_byte (take j f) b ≡ get_or f 0 0 = ap (λ r. get_or r 0 0) more ∙ get_or-take (suc j) f 0 0 (omega arith) in
     let size : length (take j f) ≡ j = length-take-le j f (omega arith) in
     let S = grow_more (grow_front R f j (omega arith) (omega arith)) b (omega (arith, len, size)) in
-    subst (λ r. Reads 0 (t ++ map Byte r) es q r) more
-    (subst (λ l. Reads 0 l es q (take j f ++ b ∷ [])) (append_assoc t (map Byte (take j f)) (Byte b ∷ []) ∙ ap (λ l. t ++ l) (sym (map-append Byte (take j f) (b ∷ [])))) S)
+    let tape : (t ++ map Byte (take j f)) ++ Byte b ∷ [] ≡ t ++ map Byte (take (suc j) f) = append_assoc t (map Byte (take j f)) (Byte b ∷ []) ∙ ap (λ l. t ++ l) (sym (map-append Byte (take j f) (b ∷ [])) ∙ ap (map Byte) more) in
+    transport (λ i. Reads 0 (tape i) es q (more i)) S
 
 -- a whole frame
 pub grow_frame : {t : List Signal} {es : List Entry} {q : ℕ} → Reads 0 t es q [] → (f : List ℕ) → length f ≡ get_or f 0 0 + 1 → (a : Entry) → Tells q f a → Reads 0 (t ++ map Byte f) (es ++ a ∷ []) (q + length f) []
@@ -100,4 +97,4 @@ grow_frame {t} {es} {q} R f w a A =
     let S = grow_full (grow_front R f j (omega arith) (omega arith)) b (omega (arith, len, size)) a (subst (λ l. Tells q l a) (sym more) A) in
     let tape : (t ++ map Byte (take j f)) ++ Byte b ∷ [] ≡ t ++ map Byte f = append_assoc t (map Byte (take j f)) (Byte b ∷ []) ∙ ap (λ l. t ++ l) (sym (map-append Byte (take j f) (b ∷ [])) ∙ ap (map Byte) more) in
     let place : q + suc (len_byte (take j f) b) ≡ q + length f = omega (arith, len, w) in
-    subst (λ n. Reads 0 (t ++ map Byte f) (es ++ a ∷ []) n []) place (subst (λ l. Reads 0 l (es ++ a ∷ []) (q + suc (len_byte (take j f) b)) []) tape S)
+    transport (λ i. Reads 0 (tape i) (es ++ a ∷ []) (place i) []) S

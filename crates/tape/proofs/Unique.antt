@@ -1,5 +1,6 @@
 -- No tape has two readings.
 use Rattle.std.proofs.Common.{◌≡◌, ℕ, suc, ◌+◌, List, [], ◌∷◌, ◌++◌, map, length, sym, refl, ap, ◌∙◌, subst, arith, length-append}
+use Rattle.std.proofs.Math.Path.{transport}
 use Rattle.tape.specs.declared.signals.Signal.{Signal}
 use Rattle.tape.specs.declared.signals.Signal.TheVariants.{Byte, Pause}
 use Rattle.tape.specs.declared.signals.Entry.{Entry}
@@ -31,13 +32,11 @@ parts_one (frame {p = p} {L = L} bs rest {e = a} {es = es} {q = q} {r = r} e eq 
     let h : L ≡ M = cc in
     let t : bs ++ rest ≡ cs ++ left = cc in
     let k = same_cut bs cs rest left (omega arith) t in
-    let k0 = k.0 in
-    let k1 = k.1 in
-    let Q' : Parts (p + suc L) left fs q' r' = subst (λ n. Parts (p + suc n) left fs q' r') (sym h) Q in
-    let Q'' : Parts (p + suc L) rest fs q' r' = subst (λ l. Parts (p + suc L) l fs q' r') (sym k1) Q' in
-    let U' : Tells p (L ∷ bs) a' = subst (λ l. Tells p l a') (λ i. sym h i ∷ sym k0 i) U in
-    let same = tells_one p (L ∷ bs) a a' T U' in
-    let ih = parts_one P Q'' in
+    let k0 = sym k.0 in
+    let k1 = sym k.1 in
+    let m = sym h in
+    let same = tells_one p (L ∷ bs) a a' T (transport (λ i. Tells p (m i ∷ k0 i) a') U) in
+    let ih = parts_one P (transport (λ i. Parts (p + suc (m i)) (k1 i) fs q' r') Q) in
     let ihe = ih.entries in
     record { entries = cc; front = ih.front; begun = ih.begun }
 
@@ -73,13 +72,10 @@ reads_one (last {bs = bs} eq P) (stretch {bs = cs} {after = a} fq Q S) = absurd 
 reads_one (stretch {bs = bs} {after = a} eq P R) (last {bs = cs} fq Q) = absurd (no_pause cs bs a (sym fq ∙ eq))
 reads_one {p} (stretch {bs = bs} {after = a} eq P R) (stretch {bs = cs} {after = b} {es = fs} {more = ms} {q = q} {q' = q'} {r = r} {r' = r'} fq Q S) =
     let k = first_pause bs cs a b (sym eq ∙ fq) in
-    let k0 = k.0 in
-    let k1 = k.1 in
-    let Q' : Parts p bs fs q r = subst (λ l. Parts p l fs q r) (sym k0) Q in
-    let S' : Reads (p + length bs) b ms q' r' = subst (λ l. Reads (p + length l) b ms q' r') (sym k0) S in
-    let S'' : Reads (p + length bs) a ms q' r' = subst (λ l. Reads (p + length bs) l ms q' r') (sym k1) S' in
-    let i = parts_one P Q' in
-    let j = reads_one R S'' in
+    let k0 = sym k.0 in
+    let k1 = sym k.1 in
+    let i = parts_one P (transport (λ i. Parts p (k0 i) fs q r) Q) in
+    let j = reads_one R (transport (λ i. Reads (p + length (k0 i)) (k1 i) ms q' r') S) in
     let i0 = i.entries in
     let i1 = i.front in
     let i2 = i.begun in
