@@ -1,5 +1,5 @@
 // Frames at the limits of every field: which are records, and what is wrong with the others.
-use crate::helps::{Writes, bytes, changed, written};
+use crate::helps::{Writes, bytes, changed, told};
 use frame::packet::Packet;
 use record::judging::judge;
 use record::records::Record;
@@ -15,17 +15,8 @@ impl Writes for Packet<Record> {
     }
 }
 
-// The cause and offset of a frame's fault, or 0 and 0. A record is written back to its own bytes.
 fn judged(rt: &impl Abort, heap: Global, given: &[u8]) -> Result<(u8, u8), Fail> {
-    match judge(given) {
-        Err(fault) => Ok((fault.cause(), fault.offset())),
-        Ok(packet) => {
-            let len = given.first().ok_or("no byte")?;
-            let frame = given.get(0..usize::from(*len) + 1).ok_or("cut")?;
-            written(rt, heap, &packet, frame)?;
-            Ok((0, 0))
-        }
-    }
+    told(rt, heap, judge(given), given)
 }
 
 // Every front of a frame is cut, with as many bytes as it has.
@@ -461,13 +452,16 @@ fn temperatures(rt: HostRuntime) -> Result<(), Fail> {
     let base = bytes(&rt, rt.alloc(), "0D 54 02 0E E9 00 00 C9 27 02 03 E7 04 39")?;
     for &(text, degrees) in &DEGREES {
         let frame = changed(rt.alloc(), &base, 6, &bytes(&rt, rt.alloc(), text)?)?;
-        match judge(&frame) {
-            Ok(packet) => match packet.record {
-                Record::Climate(climate) => assert_eq!(rt; climate.temperature, degrees),
-                _ => return Err(Fail::new(text)),
+        let Ok(
+            Packet {
+                record: Record::Climate(climate),
+                ..
             },
-            Err(_) => return Err(Fail::new(text)),
-        }
+        ) = judge(&frame)
+        else {
+            return Err(Fail::new(text));
+        };
+        assert_eq!(rt; climate.temperature, degrees);
     }
     Ok(())
 }

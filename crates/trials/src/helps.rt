@@ -1,4 +1,5 @@
 // What the trials share: bytes out of their text, and what is asked of every call that writes into a buffer.
+use frame::faults::Fault;
 use refusal::refusals::Refusal;
 use std::alloc::Global;
 use std::process::Abort;
@@ -42,11 +43,10 @@ pub fn numbers(rt: &impl Abort, heap: Global, text: &str) -> Result<Vec<u16>, Fa
 
 // The bytes of a text that has no pause.
 pub fn bytes(rt: &impl Abort, heap: Global, text: &str) -> Result<Vec<u8>, Fail> {
-    let mut all = Vec::new(heap);
-    for number in numbers(rt, heap, text)?.iter() {
-        all.push(u8::try_from(*number)?)?;
-    }
-    Ok(all)
+    numbers(rt, heap, text)?
+        .iter()
+        .map(|&number| -> Result<u8, Fail> { Ok(u8::try_from(number)?) })
+        .try_collect(heap)
 }
 
 // The bytes with others put in the place of some.
@@ -103,4 +103,22 @@ pub fn written<W: Writes>(
         written_in(rt, heap, what, text, room)?;
     }
     Ok(())
+}
+
+// The cause and offset of a fault, or 0 and 0. What is read without one is written back to its own bytes.
+pub fn told<W: Writes + Drop>(
+    rt: &impl Abort,
+    heap: Global,
+    verdict: Result<W, Fault>,
+    given: &[u8],
+) -> Result<(u8, u8), Fail> {
+    match verdict {
+        Err(fault) => Ok((fault.cause(), fault.offset())),
+        Ok(packet) => {
+            let len = given.first().ok_or("no byte")?;
+            let frame = given.get(0..usize::from(*len) + 1).ok_or("cut")?;
+            written(rt, heap, &packet, frame)?;
+            Ok((0, 0))
+        }
+    }
 }

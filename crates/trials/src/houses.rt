@@ -184,15 +184,11 @@ fn there_and_back(
 #[test]
 fn examples(rt: HostRuntime) -> Result<(), Fail> {
     for &(frame, house) in &PAIRS {
-        match judge(&bytes(&rt, rt.alloc(), frame)?) {
-            Err(_) => return Err(Fail::new(frame)),
-            Ok(packet) => written(
-                &rt,
-                rt.alloc(),
-                &House { packet },
-                &bytes(&rt, rt.alloc(), house)?,
-            )?,
-        }
+        let Ok(packet) = judge(&bytes(&rt, rt.alloc(), frame)?) else {
+            return Err(Fail::new(frame));
+        };
+        let house = bytes(&rt, rt.alloc(), house)?;
+        written(&rt, rt.alloc(), &House { packet }, &house)?;
     }
     Ok(())
 }
@@ -208,17 +204,17 @@ fn returns(rt: HostRuntime) -> Result<(), Fail> {
 // Refused as no house record, also where there is no place for a frame, and nothing is written.
 fn refused(rt: &impl Abort, heap: Global, why: &'static str, house: &str) -> Result<(), Fail> {
     let house = bytes(rt, heap, house)?;
-    match read_house(&house) {
-        Ok(_) => return Err(Fail::new(why)),
-        Err(refusal) => assert_eq!(rt; refusal.number(), 17, "{}", why),
-    }
+    let Err(refusal) = read_house(&house) else {
+        return Err(Fail::new(why));
+    };
+    assert_eq!(rt; refusal.number(), 17, "{}", why);
     for room in 0..16 {
         let old = vec![in heap; 0xA5; room]?;
         let mut out = old.clone()?;
-        match house_to_frame(&house, &mut out) {
-            Ok(_) => return Err(Fail::new(why)),
-            Err(refusal) => assert_eq!(rt; refusal.number(), 17, "{}", why),
-        }
+        let Err(refusal) = house_to_frame(&house, &mut out) else {
+            return Err(Fail::new(why));
+        };
+        assert_eq!(rt; refusal.number(), 17, "{}", why);
         assert_eq!(rt; out, old, "{}", why);
     }
     Ok(())

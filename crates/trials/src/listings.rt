@@ -40,16 +40,12 @@ fn feed(
     text: &mut Vec<u8>,
 ) -> Result<(), Fail> {
     let mut rest = piece;
-    for _ in piece {
-        if rest.is_empty() {
-            break;
-        }
+    while !rest.is_empty() {
         let fed = listing.feed(rest, out);
         assert!(rt; fed.taken > 0);
         rest = rest.get(fed.taken..).ok_or("too much taken")?;
         text.extend_from_slice(out.get(0..fed.written).ok_or("too much written")?)?;
     }
-    assert!(rt; rest.is_empty());
     Ok(())
 }
 
@@ -64,13 +60,10 @@ fn listed(
     let mut listing = Listing::new();
     let mut out = vec![in heap; 0; room]?;
     let mut text = Vec::new(heap);
-    let mut rest = input;
-    for _ in input {
-        let (piece, behind) = rest.split_at(size.min(rest.len()));
+    assert!(rt; size > 0);
+    for piece in input.chunks(size) {
         feed(rt, &mut listing, piece, &mut out, &mut text)?;
-        rest = behind;
     }
-    assert!(rt; rest.is_empty());
     assert!(rt; !listing.over());
     let closing = listing.close(&mut out)?;
     text.extend_from_slice(out.get(0..closing).ok_or("too much written")?)?;

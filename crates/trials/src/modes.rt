@@ -1,5 +1,5 @@
 // Set Mode at the limits of its fields. No frame that is received is read so.
-use crate::helps::{Writes, bytes, changed, written};
+use crate::helps::{Writes, bytes, changed, told};
 use control::mode::ModeKind;
 use control::records::SetMode;
 use frame::framing::{read_frame, write_frame};
@@ -16,18 +16,11 @@ impl Writes for Packet<SetMode> {
     }
 }
 
-// The cause and offset of a frame's fault, or 0 and 0. A record is written back to its own bytes.
-fn judged(rt: &impl Abort, heap: Global, frame: &[u8]) -> Result<(u8, u8), Fail> {
-    match read_frame::<ModeKind>(frame) {
-        Err(fault) => Ok((fault.cause(), fault.offset())),
-        Ok(packet) => {
-            written(rt, heap, &packet, frame)?;
-            Ok((0, 0))
-        }
-    }
+fn judged(rt: &impl Abort, heap: Global, given: &[u8]) -> Result<(u8, u8), Fail> {
+    told(rt, heap, read_frame::<ModeKind>(given), given)
 }
 
-// The same of a whole frame's subtype and data alone.
+// What the check says of a whole frame's subtype and data alone: cause and offset, or 0 and 0.
 fn checked(frame: &[u8]) -> Result<(u8, u8), Fail> {
     let [_, _, sub, _, data @ ..] = frame else {
         return Err(Fail::new("no header"));

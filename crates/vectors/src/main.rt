@@ -13,11 +13,9 @@ fn run(rt: &HostRuntime) -> anyhow::Result<()> {
     let commands = commands::run(rt)?;
     let houses = houses::run(rt)?;
     let stretches = stretches::run(rt)?;
-    let all = [frames, commands, houses, stretches];
-    let mut tried = 0usize;
-    for count in all {
-        tried = tried.saturating_add(count);
-    }
+    let tried = [frames, commands, houses, stretches]
+        .iter()
+        .fold(0, |sum: usize, &count| sum.saturating_add(count));
     println!(rt; "{tried} tried")?;
     Ok(())
 }

@@ -6,7 +6,7 @@ use std::alloc::{AllocError, Global};
 pub fn hex(heap: Global, bytes: &[u8]) -> Result<String, AllocError> {
     let mut text = String::new(heap);
     for byte in bytes {
-        text.push_str(&format!(in heap; "{byte:02X}")?)?;
+        write!(text, "{byte:02X}")?;
     }
     Ok(text)
 }
@@ -24,10 +24,7 @@ pub fn written(
         Ok(size) => hex(heap, buffer.get(0..size).unwrap_or(&[])),
         Err(refusal) => {
             let number = refusal.number();
-            let mut untouched = true;
-            for byte in buffer {
-                untouched = untouched && *byte == UNWRITTEN;
-            }
+            let untouched = buffer.iter().all(|&byte| byte == UNWRITTEN);
             let state = if untouched { "as it was" } else { "changed" };
             format!(in heap; "refused {number}, buffer {state}")
         }
