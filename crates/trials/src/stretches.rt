@@ -1,9 +1,22 @@
 // Stored stretches and the tokens that they hand out. In a text a byte is two hexadecimal digits.
+use crate::helps::bytes;
 use std::alloc::Global;
 use std::process::Abort;
 use std::test::Fail;
 use stretch::reader::Stretch;
 use stretch::tokens::Token;
+
+// The sort of a token by its letter, its place, and its bytes: a row of the table is one line so, and six as a `Token`.
+fn told<'a>(token: Token<'a>) -> (u8, u64, &'a [u8]) {
+    match token {
+        Token::Frame { place, bytes } => (b'F', place, bytes),
+        Token::Empty { place, bytes } => (b'E', place, bytes),
+        Token::Remnant { place, bytes } => (b'R', place, bytes),
+    }
+}
+
+// A token as it is told, with its bytes as a text.
+type Part = (u8, u64, &'static str);
 
 // The stretch hands out these tokens and no more, and their bytes, one behind the other, are the stretch.
 fn hands(
@@ -11,16 +24,15 @@ fn hands(
     heap: Global,
     given: &[u8],
     place: u32,
-    tokens: &[Token<'static>],
+    parts: &[Part],
 ) -> Result<(), Fail> {
     let mut reader = Stretch::new(given, place);
     let mut joined = Vec::new(heap);
-    for token in tokens {
-        assert_eq!(rt; reader.next(), Some(*token), "{given:?}");
-        let (Token::Frame { bytes, .. }
-        | Token::Empty { bytes, .. }
-        | Token::Remnant { bytes, .. }) = *token;
-        joined.extend_from_slice(bytes)?;
+    for (sort, place, text) in parts {
+        let (found, at, part) = told(reader.next().ok_or("too few tokens")?);
+        assert_eq!(rt; (found, at), (*sort, *place), "{given:?}");
+        assert_eq!(rt; part, bytes(rt, heap, *text)?.as_slice(), "{given:?}");
+        joined.extend_from_slice(part)?;
     }
     assert!(rt; reader.next().is_none(), "{given:?}");
     assert!(rt; reader.next().is_none(), "{given:?}");
@@ -29,175 +41,77 @@ fn hands(
 }
 
 // A stretch, the place of its first byte, and its tokens.
-type Case = (&'static [u8], u32, &'static [Token<'static>]);
+type Case = (&'static str, u32, &'static [Part]);
 
 static STRETCHES: [Case; 16] = [
-    (b"", 0, &[]),
-    (b"", 4_294_967_295, &[]),
+    ("", 0, &[]),
+    ("", 4_294_967_295, &[]),
+    ("00", 0, &[(b'E', 0, "00")]),
+    ("00", 4_294_967_295, &[(b'E', 4_294_967_295, "00")]),
+    ("01", 7, &[(b'R', 7, "01")]),
+    ("FF", 4_294_967_295, &[(b'R', 4_294_967_295, "FF")]),
+    ("03 AA BB", 0, &[(b'R', 0, "03 AA BB")]),
+    ("03 AA BB CC", 0, &[(b'E', 0, "03 AA BB CC")]),
+    ("04 AA BB CC", 0, &[(b'R', 0, "04 AA BB CC")]),
+    ("04 AA BB CC DD", 0, &[(b'F', 0, "04 AA BB CC DD")]),
     (
-        b"\x00",
-        0,
-        &[Token::Empty {
-            place: 0,
-            bytes: b"\x00",
-        }],
-    ),
-    (
-        b"\x00",
-        4_294_967_295,
-        &[Token::Empty {
-            place: 4_294_967_295,
-            bytes: b"\x00",
-        }],
-    ),
-    (
-        b"\x01",
+        "04 AA BB CC DD 04",
         7,
-        &[Token::Remnant {
-            place: 7,
-            bytes: b"\x01",
-        }],
+        &[(b'F', 7, "04 AA BB CC DD"), (b'R', 12, "04")],
     ),
     (
-        b"\xFF",
-        4_294_967_295,
-        &[Token::Remnant {
-            place: 4_294_967_295,
-            bytes: b"\xFF",
-        }],
-    ),
-    (
-        b"\x03\xAA\xBB",
+        "00 00 01 00 01",
         0,
-        &[Token::Remnant {
-            place: 0,
-            bytes: b"\x03\xAA\xBB",
-        }],
+        &[
+            (b'E', 0, "00"),
+            (b'E', 1, "00"),
+            (b'E', 2, "01 00"),
+            (b'R', 4, "01"),
+        ],
     ),
     (
-        b"\x03\xAA\xBB\xCC",
-        0,
-        &[Token::Empty {
-            place: 0,
-            bytes: b"\x03\xAA\xBB\xCC",
-        }],
-    ),
-    (
-        b"\x04\xAA\xBB\xCC",
-        0,
-        &[Token::Remnant {
-            place: 0,
-            bytes: b"\x04\xAA\xBB\xCC",
-        }],
-    ),
-    (
-        b"\x04\xAA\xBB\xCC\xDD",
-        0,
-        &[Token::Frame {
-            place: 0,
-            bytes: b"\x04\xAA\xBB\xCC\xDD",
-        }],
-    ),
-    (
-        b"\x04\xAA\xBB\xCC\xDD\x04",
+        "04 02 01 01 00 02 AA BB 09 19",
         7,
         &[
-            Token::Frame {
-                place: 7,
-                bytes: b"\x04\xAA\xBB\xCC\xDD",
-            },
-            Token::Remnant {
-                place: 12,
-                bytes: b"\x04",
-            },
+            (b'F', 7, "04 02 01 01 00"),
+            (b'E', 12, "02 AA BB"),
+            (b'R', 15, "09 19"),
         ],
     ),
     (
-        b"\x00\x00\x01\x00\x01",
-        0,
-        &[
-            Token::Empty {
-                place: 0,
-                bytes: b"\x00",
-            },
-            Token::Empty {
-                place: 1,
-                bytes: b"\x00",
-            },
-            Token::Empty {
-                place: 2,
-                bytes: b"\x01\x00",
-            },
-            Token::Remnant {
-                place: 4,
-                bytes: b"\x01",
-            },
-        ],
-    ),
-    (
-        b"\x04\x02\x01\x01\x00\x02\xAA\xBB\x09\x19",
-        7,
-        &[
-            Token::Frame {
-                place: 7,
-                bytes: b"\x04\x02\x01\x01\x00",
-            },
-            Token::Empty {
-                place: 12,
-                bytes: b"\x02\xAA\xBB",
-            },
-            Token::Remnant {
-                place: 15,
-                bytes: b"\x09\x19",
-            },
-        ],
-    ),
-    (
-        b"\x04\x02\x01\x01\x00\x02\xAA\xBB\x09\x19",
+        "04 02 01 01 00 02 AA BB 09 19",
         4_294_967_295,
         &[
-            Token::Frame {
-                place: 4_294_967_295,
-                bytes: b"\x04\x02\x01\x01\x00",
-            },
-            Token::Empty {
-                place: 4_294_967_300,
-                bytes: b"\x02\xAA\xBB",
-            },
-            Token::Remnant {
-                place: 4_294_967_303,
-                bytes: b"\x09\x19",
-            },
+            (b'F', 4_294_967_295, "04 02 01 01 00"),
+            (b'E', 4_294_967_300, "02 AA BB"),
+            (b'R', 4_294_967_303, "09 19"),
         ],
     ),
     (
-        b"\x04\x02\x01\x01\x00\x08\x20\x00\x4D\xD3\xDC\x54\x00\x89",
+        "04 02 01 01 00 08 20 00 4D D3 DC 54 00 89",
         0,
         &[
-            Token::Frame {
-                place: 0,
-                bytes: b"\x04\x02\x01\x01\x00",
-            },
-            Token::Frame {
-                place: 5,
-                bytes: b"\x08\x20\x00\x4D\xD3\xDC\x54\x00\x89",
-            },
+            (b'F', 0, "04 02 01 01 00"),
+            (b'F', 5, "08 20 00 4D D3 DC 54 00 89"),
         ],
     ),
     (
-        b"\x09\x19\x04\x02\x01\x01\x00",
+        "09 19 04 02 01 01 00",
         0,
-        &[Token::Remnant {
-            place: 0,
-            bytes: b"\x09\x19\x04\x02\x01\x01\x00",
-        }],
+        &[(b'R', 0, "09 19 04 02 01 01 00")],
     ),
 ];
 
 #[test]
 fn stretches(rt: HostRuntime) -> Result<(), Fail> {
-    for &(given, place, tokens) in &STRETCHES {
-        hands(&rt, rt.alloc(), given, place, tokens)?;
+    for &(text, place, parts) in &STRETCHES {
+        hands(
+            &rt,
+            rt.alloc(),
+            &bytes(&rt, rt.alloc(), text)?,
+            place,
+            parts,
+        )?;
     }
     Ok(())
 }
