@@ -1,5 +1,6 @@
 // Type 0x19, blinds. The limits of its fields go by the subtype.
-ghost use Rattle.std.specs.Prelude.{◌≡◌, refl};
+ghost use Rattle.std.specs.Prelude.{◌≡◌, refl, nat_le};
+ghost use Rattle.frame.specs.Fields.{in_range};
 ghost use Rattle.actors.specs.Blinds.{blinds};
 ghost use Rattle.actors.specs.Ranges.{id_max, unit_min, unit_max, command_max};
 ghost use Rattle.actors.specs.Laws.{blinds_law};
@@ -13,36 +14,33 @@ use refusal::refusals::Refusal;
 #[derive(Clone, Copy, PartialEq, Eq, Debug)]
 pub struct BlindsKind;
 
-fn id_max(sub: u8) -> u32
-    ensures { result ≡ id_max sub }
-{
-    if sub <= 1 { 0xFFFF } else { 0xFF_FFFF }
-}
-
-fn unit_min(sub: u8) -> u8
-    ensures { result ≡ unit_min sub }
-{
-    if sub <= 1 { 1 } else { 0 }
-}
-
-fn unit_max(sub: u8) -> u8
-    ensures { result ≡ unit_max sub }
+fn has_id(sub: u8, id: u32) -> bool
+    ensures { result ≡ in_range 1 id (id_max sub) }
 {
     match sub {
-        0..=1 => 0x10,
-        2..=5 => 0x01,
-        _ => 0x0F,
+        0..=1 => (1..=0xFFFF).contains(&id),
+        _ => (1..=0xFF_FFFF).contains(&id),
     }
 }
 
-fn command_max(sub: u8) -> u8
-    ensures { result ≡ command_max sub }
+fn has_unit(sub: u8, unit: u8) -> bool
+    ensures { result ≡ in_range (unit_min sub) unit (unit_max sub) }
 {
     match sub {
-        0..=1 => 4,
-        4 => 7,
-        5 => 2,
-        _ => 3,
+        0..=1 => (0x01..=0x10).contains(&unit),
+        2..=5 => unit <= 0x01,
+        _ => unit <= 0x0F,
+    }
+}
+
+fn has_command(sub: u8, command: u8) -> bool
+    ensures { result ≡ nat_le command (command_max sub) }
+{
+    match sub {
+        0..=1 => command <= 4,
+        4 => command <= 7,
+        5 => command <= 2,
+        _ => command <= 3,
     }
 }
 
@@ -73,13 +71,13 @@ impl Kind for BlindsKind {
             return Err(Fault::UnknownSubtype);
         }
         let id = u32::from_be_bytes([0, *id0, *id1, *id2]);
-        if !(1..=id_max(sub)).contains(&id) {
+        if !has_id(sub, id) {
             return Err(Fault::OutOfRange(4));
         }
-        if !(unit_min(sub)..=unit_max(sub)).contains(unit) {
+        if !has_unit(sub, *unit) {
             return Err(Fault::OutOfRange(7));
         }
-        if *command > command_max(sub) {
+        if !has_command(sub, *command) {
             return Err(Fault::OutOfRange(8));
         }
         if *tail % 16 > 9 {
