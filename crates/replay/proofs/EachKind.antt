@@ -8,7 +8,7 @@ use Rattle.sensors.specs.Ranges.{climate_ok, rain_ok, meter_ok}
 use Rattle.record.proofs.Sorts.{Sort, interface_messages, transmitter_messages, blinds_frames, contacts, climates, rains, meters, Of, model, law}
 use Rattle.house.specs.House.{two, complement, contents, interface_fields, transmitter_fields, blinds_fields, security_fields, climate_fields, rain_fields, meter_fields}
 use Rattle.replay.specs.Back.{uncomplement, lawful_by}
-use Rattle.replay.proofs.Backs.{blinds_data, security_data, climate_data, rain_data, meter_data}
+use Rattle.replay.proofs.Data.{data_of}
 use Rattle.replay.proofs.Numbers.{two_at, three_at, four_at, at_two, at_three, at_four, complement_below, complement_at, at_complement}
 
 -- the bytes of the fields behind type, subtype and sequence number
@@ -51,18 +51,8 @@ kind_lawful meters r =
     let counter = at_four r.counter (grind (arith, nat_tests)) in
     (λ i. meter_ok r.subtype (id i) (counter i) r.strength) ∙ ok
 
--- the data of a frame with these fields
-abbrev data_of : Sort → List ℕ → List ℕ
-data_of interface_messages ys = ys
-data_of transmitter_messages ys = ys
-data_of blinds_frames ys = blinds_data ys
-data_of contacts ys = security_data ys
-data_of climates ys = climate_data ys
-data_of rains ys = rain_data ys
-data_of meters ys = meter_data ys
-
 -- those of a record's fields are its own
-own_data : (k : Sort) (r : Of k) → data_of k (behind k r) ≡ (model k).bytes r
+pub own_data : (k : Sort) (r : Of k) → data_of k (behind k r) ≡ (model k).bytes r
 own_data interface_messages r = append-nil (r.command ∷ r.messages)
 own_data transmitter_messages r = refl
 own_data blinds_frames r = let ok = r.ok in grind (arith, nat_tests)
