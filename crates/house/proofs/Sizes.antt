@@ -9,10 +9,7 @@ use Rattle.house.specs.House.{fields, house_of}
 use Rattle.house.specs.Laws.{ascending}
 
 short_by : (seq : ℕ) (a : Record) → length (house_of (packet seq a)) ≤ 18
-short_by seq (Interface r) =
-    let ok = r.ok in
-    let nine : length r.messages ≡ 9 = grind (arith, nat_tests) in
-    simp length-append (omega arith)
+short_by seq (Interface r) = let ok = r.ok in grind (arith, nat_tests, length-append)
 short_by seq (Transmitter r) = lit≤ tt
 short_by seq (Blinds r) = lit≤ tt
 short_by seq (Security r) = lit≤ tt

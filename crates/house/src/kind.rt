@@ -12,7 +12,7 @@ pub trait HouseKind: Kind {
 
     ghost MAP: { ℕ };
 
-    // All its fields, with the sequence number first.
+    // All its fields, by the sequence number and the record.
     ghost fields: { ℕ → Self.Record → List Field };
 
     // The bytes of the fields behind type, subtype and sequence number.

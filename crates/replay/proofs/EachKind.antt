@@ -1,17 +1,15 @@
 -- Of each kind, the records and the lawful fields are one to one.
-use Rattle.std.proofs.Common.{◌≡◌, ℕ, ◌≤◌, true, List, [], ◌∷◌, ◌++◌, length, drop, nat_abs, sym, refl, ap, ◌∙◌, append-nil, arith, drop-cons}
+use Rattle.std.proofs.Common.{◌≡◌, ℕ, ◌≤◌, true, List, ◌∷◌, length, drop, nat_abs, sym, refl, ap, ◌∙◌, append-nil, arith, drop-cons}
 use Rattle.std.proofs.lemmas.Bool.Decides.{nat_tests}
 use Rattle.frame.proofs.Spelled.{spelled}
 use Rattle.frame.specs.Fields.{Bytes, at8, at16, at24, at32}
 use Rattle.actors.specs.Ranges.{blinds_ok, security_ok}
 use Rattle.sensors.specs.Ranges.{climate_ok, rain_ok, meter_ok}
-use Rattle.control.specs.Same.{interface_same, transmitter_same}
-use Rattle.actors.specs.Same.{blinds_same, security_same}
-use Rattle.sensors.specs.Same.{climate_same, rain_same, meter_same}
-use Rattle.record.proofs.Sorts.{Sort, interface_messages, transmitter_messages, blinds_frames, contacts, climates, rains, meters, Of, model}
+use Rattle.record.proofs.Sorts.{Sort, interface_messages, transmitter_messages, blinds_frames, contacts, climates, rains, meters, Of, model, law}
 use Rattle.house.specs.House.{two, complement, contents, interface_fields, transmitter_fields, blinds_fields, security_fields, climate_fields, rain_fields, meter_fields}
 use Rattle.replay.specs.Back.{uncomplement, lawful_by}
-use Rattle.replay.proofs.Numbers.{two_at, three_at, four_at, at_two, at_three, at_four, two_one, three_one, four_one, complement_below, complement_at, at_complement}
+use Rattle.replay.proofs.Data.{data_of}
+use Rattle.replay.proofs.Numbers.{two_at, three_at, four_at, at_two, at_three, at_four, complement_below, complement_at, at_complement}
 
 -- the bytes of the fields behind type, subtype and sequence number
 abbrev pub behind : (k : Sort) → Of k → List ℕ
@@ -53,47 +51,18 @@ kind_lawful meters r =
     let counter = at_four r.counter (grind (arith, nat_tests)) in
     (λ i. meter_ok r.subtype (id i) (counter i) r.strength) ∙ ok
 
-same_tail : (a b : ℕ) (xs ys : List ℕ) → a ∷ (xs ++ []) ≡ b ∷ (ys ++ []) → (a ≡ b) × (xs ≡ ys)
-same_tail a b xs ys e = (cc, sym (append-nil xs) ∙ (cc) ∙ append-nil ys)
+-- those of a record's fields are its own
+pub own_data : (k : Sort) (r : Of k) → data_of k (behind k r) ≡ (model k).bytes r
+own_data interface_messages r = append-nil (r.command ∷ r.messages)
+own_data transmitter_messages r = refl
+own_data blinds_frames r = let ok = r.ok in grind (arith, nat_tests)
+own_data contacts r = let ok = r.ok in grind (arith, nat_tests)
+own_data climates r = let ok = r.ok in grind (arith, nat_tests)
+own_data rains r = let ok = r.ok in grind (arith, nat_tests)
+own_data meters r = let ok = r.ok in grind (arith, nat_tests)
 
 pub kind_one : (k : Sort) (r s : Of k) → (model k).sub_of r ≡ (model k).sub_of s → behind k r ≡ behind k s → r ≡ s
-kind_one interface_messages r s u e = let f = same_tail r.command s.command r.messages s.messages e in interface_same r s u f.0 f.1
-kind_one transmitter_messages r s u e = transmitter_same r s u (cc)
-kind_one blinds_frames r s u e =
-    let p = r.ok in
-    let q = s.ok in
-    blinds_same r s u (four_one r.id s.id (grind (arith, nat_tests)) (grind (arith, nat_tests)) (cc)) (cc) (cc) (cc) (cc)
-kind_one contacts r s u e =
-    let p = r.ok in
-    let q = s.ok in
-    security_same r s u (four_one r.id s.id (grind (arith, nat_tests)) (grind (arith, nat_tests)) (cc)) (cc) (cc) (cc)
-kind_one climates r s u e =
-    let p = r.ok in
-    let q = s.ok in
-    let y : nat_abs r.temperature ≤ 0x7FFF = grind (arith, nat_tests) in
-    let z : nat_abs s.temperature ≤ 0x7FFF = grind (arith, nat_tests) in
-    let tenths : complement r.temperature ≡ complement s.temperature = two_one _ _ (complement_below r.temperature y) (complement_below s.temperature z) (cc) in
-    climate_same r s u
-    (four_one r.id s.id (grind (arith, nat_tests)) (grind (arith, nat_tests)) (cc))
-    (sym (at_complement r.temperature y) ∙ ap uncomplement tenths ∙ at_complement s.temperature z)
-    (cc) (cc)
-    (two_one r.pressure s.pressure (grind (arith, nat_tests)) (grind (arith, nat_tests)) (cc))
-    (cc) (cc) (cc)
-kind_one rains r s u e =
-    let p = r.ok in
-    let q = s.ok in
-    rain_same r s u
-    (four_one r.id s.id (grind (arith, nat_tests)) (grind (arith, nat_tests)) (cc))
-    (two_one r.rate s.rate (grind (arith, nat_tests)) (grind (arith, nat_tests)) (cc))
-    (three_one r.total s.total (grind (arith, nat_tests)) (grind (arith, nat_tests)) (cc))
-    (cc) (cc)
-kind_one meters r s u e =
-    let p = r.ok in
-    let q = s.ok in
-    meter_same r s u
-    (four_one r.id s.id (grind (arith, nat_tests)) (grind (arith, nat_tests)) (cc))
-    (four_one r.counter s.counter (grind (arith, nat_tests)) (grind (arith, nat_tests)) (cc))
-    (cc)
+kind_one k r s u e = (law k).one r s u (sym (own_data k r) ∙ ap (data_of k) e ∙ own_data k s)
 
 pub kind_onto : (k : Sort) (s : ℕ) (ys : List ℕ) → Bytes ys → lawful_by (model k).number s ys ≡ true → (r : Of k) × ((model k).sub_of r ≡ s) × (behind k r ≡ ys)
 kind_onto interface_messages s ys b h =

@@ -1,6 +1,5 @@
-pub mod Given
-pub mod Backs
-pub mod Data
 pub mod Numbers
+pub mod Data
 pub mod EachKind
+pub mod ReadBack
 pub mod One

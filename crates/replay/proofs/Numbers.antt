@@ -1,5 +1,5 @@
 -- Numbers of several bytes, and two's complement: there and back.
-use Rattle.std.proofs.Common.{◌≡◌, ℕ, suc, ◌+◌, ◌-◌, ◌*◌, ◌/◌, ◌%◌, ◌<◌, ◌≤◌, [], ◌∷◌, ℤ, pos, negsuc, nat_abs, sym, ap, ◌∙◌, arith}
+use Rattle.std.proofs.Common.{◌≡◌, ℕ, suc, ◌+◌, ◌-◌, ◌*◌, ◌/◌, ◌%◌, ◌<◌, ◌≤◌, [], ◌∷◌, ℤ, pos, negsuc, nat_abs, ap, arith}
 use Rattle.std.proofs.lemmas.Bool.Decides.{nat_tests}
 use Rattle.frame.specs.Fields.{at16, at24, at32}
 use Rattle.house.specs.House.{two, three, four, complement}
@@ -29,15 +29,6 @@ at_four n h =
     let d : n / 16777216 % 256 ≡ n / 16777216 = omega arith in
     let g : n / 65536 % 256 ≡ n / 256 / 256 % 256 = ap (λ k. k % 256) e in
     omega arith
-
-pub two_one : (m n : ℕ) → m < 65536 → n < 65536 → two m ≡ two n → m ≡ n
-two_one m n h i e = sym (at_two m h) ∙ ap (λ l. at16 l 0) e ∙ at_two n i
-
-pub three_one : (m n : ℕ) → m < 16777216 → n < 16777216 → three m ≡ three n → m ≡ n
-three_one m n h i e = sym (at_three m h) ∙ ap (λ l. at24 l 0) e ∙ at_three n i
-
-pub four_one : (m n : ℕ) → m < 4294967296 → n < 4294967296 → four m ≡ four n → m ≡ n
-four_one m n h i e = sym (at_four m h) ∙ ap (λ l. at32 l 0) e ∙ at_four n i
 
 pub complement_below : (z : ℤ) → nat_abs z ≤ 0x7FFF → complement z < 65536
 complement_below (pos n) h = omega arith

@@ -14,7 +14,6 @@ use Rattle.refusal.specs.declared.refusals.Refusal.TheVariants.{NoHouseRecord}
 use Rattle.record.proofs.Sorts.{Sort, interface_messages, transmitter_messages, blinds_frames, contacts, climates, rains, meters, Of, model, inject, sort_of, body, put_together, named, named_is}
 use Rattle.record.specs.Frames.{frame_of}
 use Rattle.record.specs.declared.records.Record.{Record}
-use Rattle.record.specs.declared.records.Record.TheVariants.{Interface, Transmitter, Blinds, Security, Climate, Rain, Meter}
 use Rattle.house.specs.House.{house_of}
 use Rattle.replay.specs.Back.{map_by, is_map, headed, lawful_by, lawful, given, house_verdict, housed}
 use Rattle.replay.specs.Laws.{EachPacketsHouseRecordIsLawful, NoTwoPacketsHaveOneHouseRecord, EachLawfulHouseRecordIsAPackets, AFrameComesBack}
@@ -44,15 +43,6 @@ maps_to meters = refl
 abbrev laid_out : (k : Sort) → ℕ → Of k → List ℕ
 laid_out k seq r = headed (mapped k) (model k).number ((model k).sub_of r) seq (behind k r)
 
-house_is : (seq : ℕ) (a : Record) → house_of (packet seq a) ≡ laid_out (sort_of a) seq (body a)
-house_is seq (Interface r) = refl
-house_is seq (Transmitter r) = refl
-house_is seq (Blinds r) = refl
-house_is seq (Security r) = refl
-house_is seq (Climate r) = refl
-house_is seq (Rain r) = refl
-house_is seq (Meter r) = refl
-
 injected : (k : Sort) (seq : ℕ) (r : Of k) → house_of (packet seq (inject k r)) ≡ laid_out k seq r
 injected interface_messages seq r = refl
 injected transmitter_messages seq r = refl
@@ -61,6 +51,9 @@ injected contacts seq r = refl
 injected climates seq r = refl
 injected rains seq r = refl
 injected meters seq r = refl
+
+house_is : (seq : ℕ) (a : Record) → house_of (packet seq a) ≡ laid_out (sort_of a) seq (body a)
+house_is seq a = ap (λ b. house_of (packet seq b)) (sym (put_together a)) ∙ injected (sort_of a) seq (body a)
 
 -- what a kind's fields are with their map, type, subtype and sequence number before them
 headed_lawful : (k : Sort) (s seq : ℕ) (ys : List ℕ) → lawful_by (model k).number s ys ≡ true → lawful (headed (mapped k) (model k).number s seq ys) ≡ true
@@ -142,10 +135,7 @@ typed n s ys h =
 
 -- three tests that hold
 all_hold : (a b c : Bool) → (a && b && c) ≡ true → (a ≡ true) × (b ≡ true) × (c ≡ true)
-all_hold true true true h = (refl, refl, refl)
-all_hold true true false h = let z : ◌≡◌ {A = ℕ} 0 1 = cc in absurd (omega arith)
-all_hold true false c h = let z : ◌≡◌ {A = ℕ} 0 1 = cc in absurd (omega arith)
-all_hold false b c h = let z : ◌≡◌ {A = ℕ} 0 1 = cc in absurd (omega arith)
+all_hold a b c h = (grind arith, grind arith, grind arith)
 
 pub house_onto : EachLawfulHouseRecordIsAPackets
 house_onto xs b h =
@@ -172,7 +162,7 @@ long_verdict xs b h =
 -- what is given is what was asked for
 given_is : (b : Bool) (xs ys : List ℕ) → Ok ys ≡ given b xs → ys ≡ xs
 given_is true xs ys e = cc
-given_is false xs ys e = let z : ◌≡◌ {A = ℕ} 0 1 = cc in absurd (omega arith)
+given_is false xs ys e = grind arith
 
 module _ (xs : List ℕ) (r : Result (Packet Record) Refusal) (v : housed r ≡ house_verdict xs) where
   -- a packet's house record is read as that packet
@@ -181,26 +171,11 @@ module _ (xs : List ℕ) (r : Result (Packet Record) Refusal) (v : housed r ≡ 
     where
       by : (r : Result (Packet Record) Refusal) → housed r ≡ Ok (house_of p) → r ≡ Ok p
       by (Ok q) f = ap Ok (house_one q p (cc))
-      by (Err x) f = let z : ◌≡◌ {A = ℕ} 0 1 = cc in absurd (omega arith)
+      by (Err x) f = grind arith
 
   -- a packet that is read has these bytes as its house record
   pub writes_back : (p : Packet Record) → r ≡ Ok p → house_of p ≡ xs
   writes_back p e = given_is (lawful xs) xs (house_of p) (sym (ap housed e) ∙ v)
-
--- what is refused is refused as no house record, and what is given is lawful
-pub refused_by : (xs : List ℕ) (x : Refusal) → housed (Err x) ≡ house_verdict xs → ◌≡◌ {A = Result ℕ Refusal} (Err x) (Err NoHouseRecord)
-refused_by xs x v = by (lawful xs) v
-  where
-    by : (b : Bool) → Err x ≡ given b xs → ◌≡◌ {A = Result ℕ Refusal} (Err x) (Err NoHouseRecord)
-    by true e = let z : ◌≡◌ {A = ℕ} 0 1 = cc in absurd (omega arith)
-    by false e = ap Err (cc)
-
-pub given_lawful : (xs : List ℕ) (p : Packet Record) → housed (Ok p) ≡ house_verdict xs → lawful xs ≡ true
-given_lawful xs p v = by (lawful xs) v
-  where
-    by : (b : Bool) → Ok (house_of p) ≡ given b xs → b ≡ true
-    by true e = refl
-    by false e = let z : ◌≡◌ {A = ℕ} 0 1 = cc in absurd (omega arith)
 
 -- a frame that is read, as a house record and back
 pub frame_comes_back : AFrameComesBack

@@ -88,6 +88,7 @@ given ok xs = cond ok (Ok xs) (Err NoHouseRecord)
 abbrev pub house_verdict : List ℕ → Result (List ℕ) Refusal
 house_verdict xs = given (lawful xs) xs
 
+-- the check of a frame's data found no fault
 abbrev pub passes : Verdict → Bool
 passes (Ok u) = true
 passes (Err f) = false

@@ -106,7 +106,7 @@ fn sign_and_size(t: u16) -> u16
     if t <= 0x8000 {
         t
     } else {
-        0x8000 + (0xFFFF - t + 1)
+        0x8000 + t.wrapping_neg()
     }
 }
 

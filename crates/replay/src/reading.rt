@@ -21,6 +21,7 @@ use sensors::climate::ClimateKind;
 use sensors::meter::MeterKind;
 use sensors::rain::RainKind;
 
+// What a map, subtype and sequence number say for a kind, and the fields behind them.
 fn read_as<K: StoredKind>(
     map: u16,
     sub: u8,

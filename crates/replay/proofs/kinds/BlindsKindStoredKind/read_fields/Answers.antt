@@ -1,9 +1,14 @@
 use Rattle.std.proofs.Common.{arith}
 use Rattle.std.proofs.lemmas.Bool.Decides.{nat_tests}
-use Rattle.replay.proofs.Data.{blinds_read}
+use Rattle.frame.specs.Fields.{Bytes}
+use Rattle.record.proofs.Sorts.{blinds_frames}
+use Rattle.replay.proofs.Data.{blinds_passes}
+use Rattle.replay.proofs.ReadBack.{kind_read}
 use Rattle.replay.proofs.kinds.BlindsKindStoredKind.read_fields.Goals as goal
 
 pub returns : goal.returns
 returns c =
+    let ys = c.args.fields.now in
     let t = c.type_inv.fields in
-    blinds_read c.args.sub c.args.fields.now (λ i. omega (arith, t i)) (grind (arith, nat_tests)) (grind (arith, nat_tests)) (grind (arith, nat_tests)) (grind (arith, nat_tests)) c.read_data.result (grind (arith, nat_tests))
+    let bytes : Bytes ys = λ i. omega (arith, t i) in
+    kind_read blinds_frames c.args.sub ys bytes (blinds_passes c.args.sub ys bytes (grind (arith, nat_tests)) (grind (arith, nat_tests)) (grind (arith, nat_tests)) (grind (arith, nat_tests))) c.read_data.result (grind (arith, nat_tests))
