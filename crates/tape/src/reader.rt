@@ -5,7 +5,7 @@ pub mod steps;
 
 #[derive(Drop)]
 pub struct TapeReader {
-    // the first `held` of these are the bytes of the frame begun
+    // the first `held` of these are the bytes of the frame begun: no heap, and the match on `held` wants it by itself
     begun: [u8; 256],
     held: u8,
     // the place of the frame begun

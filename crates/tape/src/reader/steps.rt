@@ -64,13 +64,13 @@ impl TapeReader {
             return None;
         };
         let size = *len as u32 + 1;
-        if self.held != 0 || frame.len() != size as usize || u32::MAX - self.signals < size {
+        if self.held != 0 || frame.len() != size as usize {
             return None;
         }
+        self.signals = self.signals.checked_add(size)?;
         let verdict = judge(frame);
         let place = self.place;
         self.place = place + size;
-        self.signals += size;
         Some(Entry { place, verdict })
     }
 
