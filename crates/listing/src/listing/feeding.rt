@@ -23,7 +23,10 @@ fn line_of(entry: &Entry, out: &mut [u8]) -> usize
     ensures holds { out.new ≡ lines (entry.now ∷ []) ++ drop result out.old }
     ensures short { result ≤ 50 }
 {
-    compose(entry, out)
+    if let Some(room) = out.first_chunk_mut::<LINE>() {
+        return compose(entry, room);
+    }
+    0
 }
 
 impl Listing {
