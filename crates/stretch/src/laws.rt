@@ -1,26 +1,18 @@
 // The theorems on the tokens of a stretch, each as the contract of a function.
 ghost use Rattle.stretch.specs.Laws.{EachStretchHasOneListOfTokens, TokensAreTheStretch, TokensAreFramesAndARemnant, TokensTellTheReading};
 
-pub fn one_list_of_tokens() -> u8
+pub fn one_list_of_tokens()
     ensures { EachStretchHasOneListOfTokens }
-{
-    0
-}
+{}
 
-pub fn tokens_are_the_stretch() -> u8
+pub fn tokens_are_the_stretch()
     ensures { TokensAreTheStretch }
-{
-    0
-}
+{}
 
-pub fn tokens_are_frames_and_a_remnant() -> u8
+pub fn tokens_are_frames_and_a_remnant()
     ensures { TokensAreFramesAndARemnant }
-{
-    0
-}
+{}
 
-pub fn tokens_tell_the_reading() -> u8
+pub fn tokens_tell_the_reading()
     ensures { TokensTellTheReading }
-{
-    0
-}
+{}

@@ -2,7 +2,7 @@
 
 // A part of a stretch, as a part of its bytes, with the place of its length byte. A place has 64 bits, so that it is right
 // past the end of 32 bits too.
-#[derive(Clone, Copy)]
+#[derive(Clone, Copy, PartialEq, Eq, Debug)]
 pub enum Token<'a> {
     // a whole frame that has a payload
     Frame { place: u64, bytes: &'a [u8] },

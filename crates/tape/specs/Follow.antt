@@ -1,9 +1,8 @@
 -- What a tape reader holds, and what one more signal gives (docs/READING.md).
-use Rattle.std.specs.Prelude.{◌≡◌, ℕ, ◌+◌, Bool, true, false, cond, ◌&&◌, List, [], ◌∷◌, ◌++◌, length, take, ◌==◌, nat_le, slice_index}
+use Rattle.std.specs.Prelude.{◌≡◌, ℕ, ◌+◌, Bool, true, false, cond, ◌&&◌, List, [], ◌∷◌, ◌++◌, length, take, ◌==◌, nat_le, slice_index, Result, Ok, Err, Option, Some, None}
 use Rattle.tape.specs.declared.signals.Signal.{Signal}
 use Rattle.tape.specs.declared.signals.Entry.{Entry}
-use Rattle.tape.specs.declared.signals.Step.{Step}
-use Rattle.tape.specs.declared.signals.Step.TheVariants.{Quiet, Read, Full}
+use Rattle.tape.specs.declared.signals.TapeFull.{TapeFull}
 use Rattle.tape.specs.declared.reader.TapeReader.{TapeReader}
 use Rattle.tape.specs.Reading.{Reads}
 
@@ -34,19 +33,18 @@ pub record Follows (t : List Signal) (es : List Entry) (x : Held) : Type 0 where
   pub count : length t ≡ x.signals
 
 -- the entries that an answer tells
-abbrev pub gained : Step → List Entry
-gained Quiet = []
-gained (Read e) = e ∷ []
-gained Full = []
+abbrev pub gained : Result (Option Entry) TapeFull → List Entry
+gained (Ok None) = []
+gained (Ok (Some e)) = e ∷ []
+gained (Err f) = []
 
-abbrev pub is_full : Step → Bool
-is_full Quiet = false
-is_full (Read e) = false
-is_full Full = true
+abbrev pub is_full : Result (Option Entry) TapeFull → Bool
+is_full (Ok e) = false
+is_full (Err f) = true
 
 -- a reader of the tape t, whose entries are es, was given the signal s and answered r: it refused just where the tape is full,
 -- and now it follows the tape with s, whose entries are es and those that r tells
-pub record Took (t : List Signal) (es : List Entry) (s : Signal) (r : Step) (x : Held) : Type 0 where
+pub record Took (t : List Signal) (es : List Entry) (s : Signal) (r : Result (Option Entry) TapeFull) (x : Held) : Type 0 where
   pub refuses : is_full r ≡ full t
   pub follows : Follows (heard t s) (es ++ gained r) x
 

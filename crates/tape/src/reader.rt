@@ -7,13 +7,11 @@ pub mod steps;
 pub struct TapeReader {
     // the first `held` of these are the bytes of the frame begun
     begun: [u8; 256],
-    held: usize,
+    held: u8,
     // the place of the frame begun
     place: u32,
     signals: u32,
-    ghost few: { held < 256 },
     ghost sized: { held ≤ length begun },
     ghost partial: { held ≤ slice_index begun 0 },
     ghost within: { place + held ≤ signals },
-    ghost counted: { signals < 4294967296 },
 }

@@ -5,7 +5,7 @@ use std::alloc::Global;
 use std::process::Abort;
 use std::test::Fail;
 use tape::reader::TapeReader;
-use tape::signals::{Entry, Signal, Step};
+use tape::signals::{Entry, Signal, TapeFull};
 
 // The place, the cause and the offset of an entry. A record has cause and offset 0.
 type Told = (u32, u8, u8);
@@ -30,14 +30,12 @@ fn read(rt: &impl Abort, heap: Global, tape: &[u16]) -> Result<(Vec<Told>, u8, u
     let mut heard = Vec::new(heap);
     let mut entries = Vec::new(heap);
     for number in tape {
-        let signal = Signal::from_number(*number);
+        let signal = Signal::from(*number);
         if let Signal::Byte(byte) = signal {
             heard.push(byte)?;
         }
-        match reader.take(signal) {
-            Step::Quiet => {}
-            Step::Read(entry) => entries.push(told(rt, &entry, &heard)?)?,
-            Step::Full => return Err(Fail::new("full")),
+        if let Some(entry) = reader.take(signal)? {
+            entries.push(told(rt, &entry, &heard)?)?;
         }
     }
     Ok((entries, reader.begun(), reader.signals()))
@@ -147,21 +145,18 @@ fn cuts(rt: HostRuntime) -> Result<(), Fail> {
 fn started(rt: &impl Abort, heap: Global, text: &str) -> Result<TapeReader, Fail> {
     let mut reader = TapeReader::new();
     for number in numbers(rt, heap, text)?.iter() {
-        reader.take(Signal::from_number(*number));
+        reader.take(Signal::from(*number))?;
     }
     Ok(reader)
 }
 
 // What the last of some bytes gives where they are taken one by one.
-fn last(reader: &mut TapeReader, frame: &[u8]) -> Option<Entry> {
-    let mut said = Step::Quiet;
+fn last(reader: &mut TapeReader, frame: &[u8]) -> Result<Option<Entry>, TapeFull> {
+    let mut said = None;
     for byte in frame {
-        said = reader.take(Signal::Byte(*byte));
+        said = reader.take(Signal::Byte(*byte))?;
     }
-    match said {
-        Step::Read(entry) => Some(entry),
-        _ => None,
-    }
+    Ok(said)
 }
 
 // What came before, the bytes given at once, and whether they are taken. Where they are, all is as if taken one by one; else the
@@ -197,11 +192,7 @@ fn frames(rt: HostRuntime) -> Result<(), Fail> {
             None => assert!(rt; !taken, "{}", text),
             Some(entry) => {
                 assert!(rt; taken, "{}", text);
-                let Some(other) = last(&mut slow, &frame) else {
-                    return Err(Fail::new("no entry"));
-                };
-                assert_eq!(rt; entry.place, other.place);
-                assert!(rt; entry.verdict == other.verdict);
+                assert_eq!(rt; last(&mut slow, &frame)?, Some(entry));
             }
         }
         assert_eq!(rt;

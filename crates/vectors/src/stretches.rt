@@ -23,15 +23,10 @@ fn token(heap: Global, token: Token) -> Result<String, AllocError> {
     format!(in heap; " {sort} {place} {text}")
 }
 
-// The tokens of a stretch: at most as many as it has bytes.
 fn tokens(heap: Global, bytes: &[u8], place: u32) -> Result<String, AllocError> {
     let mut text = String::new(heap);
-    let mut stretch = Stretch::new(bytes, place);
-    for _ in 0..bytes.len() {
-        match stretch.next() {
-            Some(next) => text.push_str(&token(heap, next)?)?,
-            None => break,
-        }
+    for next in Stretch::new(bytes, place) {
+        text.push_str(&token(heap, next)?)?;
     }
     Ok(text)
 }

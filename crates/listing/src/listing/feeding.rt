@@ -14,7 +14,7 @@ use crate::line::{LINE, compose, write_closing};
 use crate::listing::{Fed, Listing};
 use refusal::refusals::Refusal;
 use tape::reader::TapeReader;
-use tape::signals::{Entry, Signal, Step};
+use tape::signals::{Entry, Signal};
 
 // Writes the line of an entry to the front of a buffer that has room for it.
 fn line_of(entry: &Entry, out: &mut [u8]) -> usize
@@ -47,13 +47,13 @@ impl Listing {
         ensures stepped { (t : List Heard) (es : List Entry) → Follows t es (model self.old.reader) → Stepped t es signal out.old result out.new self.old self.new }
         ensures short { result ≤ 50 }
     {
-        match self.reader.take(signal) {
-            Step::Quiet => 0,
-            Step::Full => {
-                self.over = true;
-                0
-            }
-            Step::Read(entry) => line_of(&entry, out),
+        let Ok(completed) = self.reader.take(signal) else {
+            self.over = true;
+            return 0;
+        };
+        match completed {
+            None => 0,
+            Some(entry) => line_of(&entry, out),
         }
     }
 
@@ -70,7 +70,7 @@ impl Listing {
             }
             Some(high) => {
                 self.high = None;
-                self.step(Signal::from_number(u16::from_be_bytes([high, byte])), out)
+                self.step(Signal::from(u16::from_be_bytes([high, byte])), out)
             }
         }
     }
@@ -124,7 +124,7 @@ impl Listing {
         }
         if self.high.is_none() && piece.len() >= 2 {
             let number = u16::from_be_bytes([piece[0], piece[1]]);
-            let written = self.step(Signal::from_number(number), out);
+            let written = self.step(Signal::from(number), out);
             return Fed { taken: 2, written };
         }
         let written = self.hear(piece[0], out);

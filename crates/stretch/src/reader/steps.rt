@@ -1,5 +1,6 @@
 // What a reader of a stored stretch hands out.
-ghost use Rattle.std.specs.Prelude.{◌≡◌};
+ghost use Rattle.std.specs.Prelude.{◌≡◌, length};
+ghost use Rattle.std.specs.Iterator.{at_most};
 ghost use Rattle.stretch.specs.Tokens.{part, view, whole};
 ghost use Rattle.stretch.specs.Handed.{Handed, model, standing};
 
@@ -27,25 +28,28 @@ impl<'a> Stretch<'a> {
             place: place as u64,
         }
     }
+}
 
-    // The next token, or none where no byte is left.
-    pub fn next(&mut self) -> Option<Token<'a>>
-        ensures { Handed (model self.old) (view result) (model self.new) }
-    {
+// The tokens, the earliest first; none where no byte is left.
+impl<'a> Iterator for Stretch<'a> {
+    type Item = Token<'a>;
+
+    ghost next_gives = { λ old next new. Handed (model old) (view next) (model new) };
+
+    ghost remaining = { λ left. at_most (length left.rest.now) };
+
+    fn next(&mut self) -> Option<Token<'a>> {
         let rest = self.rest;
         let place = self.place;
-        let [len, ..] = rest else {
-            return None;
-        };
-        let size = *len as usize + 1;
-        if rest.len() < size {
-            self.rest = &rest[rest.len()..];
+        let len = *rest.first()?;
+        let size = len as usize + 1;
+        let Some((bytes, after)) = rest.split_at_checked(size) else {
+            self.rest = &[];
             self.place = place + rest.len() as u64;
             return Some(Token::Remnant { place, bytes: rest });
-        }
-        let (frame, after) = rest.split_at(size);
+        };
         self.rest = after;
         self.place = place + size as u64;
-        Some(token(*len, place, frame))
+        Some(token(len, place, bytes))
     }
 }

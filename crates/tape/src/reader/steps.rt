@@ -1,12 +1,12 @@
 // What a reader of a tape does with a signal.
-ghost use Rattle.std.specs.Prelude.{◌≡◌, List, [], ◌∷◌, ◌++◌, map, is_some, Some, None};
+ghost use Rattle.std.specs.Prelude.{◌≡◌, List, [], ◌∷◌, ◌++◌, map, is_some, Some, None, OnErr};
 ghost use Rattle.tape.specs.declared.signals.Signal.{Signal as Heard};
 ghost use Rattle.tape.specs.declared.signals.Signal.TheVariants.{Byte};
 ghost use Rattle.tape.specs.declared.signals.Entry.{Entry as Told};
 ghost use Rattle.tape.specs.Follow.{Follows, Took, at_once, model};
 
 use crate::reader::TapeReader;
-use crate::signals::{Entry, Signal, Step};
+use crate::signals::{Entry, Signal, TapeFull};
 use frame::faults::Fault;
 use record::judging::judge;
 
@@ -24,34 +24,31 @@ impl TapeReader {
     }
 
     // Takes one more signal, whatever the tape was: its reading grows by just what is answered. A full tape takes no more.
-    pub fn take(&mut self, signal: Signal) -> Step
+    pub fn take(&mut self, signal: Signal) -> Result<Option<Entry>, TapeFull>
         ensures took { (t : List Heard) (es : List Told) → Follows t es (model self.old) → Took t es signal result (model self.new) }
-        ensures refused { result ≡ Step.Full → self.new ≡ self.old }
+        ensures refused { OnErr result (self.new ≡ self.old) }
     {
-        if self.signals == u32::MAX {
-            return Step::Full;
-        }
-        self.signals += 1;
+        self.signals = self.signals.checked_add(1).ok_or(TapeFull)?;
         match (self.held, signal) {
             (held, Signal::Byte(b)) => {
-                self.begun[held] = b;
-                if held < self.begun[0] as usize {
+                self.begun[held as usize] = b;
+                if held < self.begun[0] {
                     self.held = held + 1;
-                    return Step::Quiet;
+                    return Ok(None);
                 }
-                let verdict = judge(&self.begun[0..held + 1]);
+                let verdict = judge(&self.begun[..=held as usize]);
                 let place = self.place;
                 self.place = place + held as u32 + 1;
                 self.held = 0;
-                Step::Read(Entry { place, verdict })
+                Ok(Some(Entry { place, verdict }))
             }
-            (0, Signal::Pause) => Step::Quiet,
+            (0, Signal::Pause) => Ok(None),
             (held, Signal::Pause) => {
                 let place = self.place;
                 self.place = place + held as u32;
                 self.held = 0;
-                let verdict = Err(Fault::Cut(held as u8));
-                Step::Read(Entry { place, verdict })
+                let verdict = Err(Fault::Cut(held));
+                Ok(Some(Entry { place, verdict }))
             }
         }
     }
@@ -88,6 +85,6 @@ impl TapeReader {
     pub fn begun(&self) -> u8
         ensures { result ≡ (model self.now).held }
     {
-        self.held as u8
+        self.held
     }
 }

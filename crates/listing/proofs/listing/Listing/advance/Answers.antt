@@ -18,10 +18,10 @@ returns-then-piece-ge2 c =
     let still = c.leap-leap.ensures.still (omega (arith, c.if-leap-gt0.false)) in
     let none = ap (λ v. v.high) (sym still.1) ∙ none_of _ (c.is_none.ensures ∙ ap not c.if-is_none.true) in
     let number : c.from_be_bytes-number.result ≡ get_or piece 0 0 * 256 + get_or piece 1 0 = search rules in
-    let step : (t : List Signal) (fs : List Entry) → Follows t fs (model x.reader) → Stepped t fs c.from_number.result out c.step-written.result c.step-written.new.out x c.step-written.new.self = stepped_still (sym still.1) (sym still.0) c.step-written.ensures.stepped in
+    let step : (t : List Signal) (fs : List Entry) → Follows t fs (model x.reader) → Stepped t fs c.from.result out c.step-written.result c.step-written.new.out x c.step-written.new.self = stepped_still (sym still.1) (sym still.0) c.step-written.ensures.stepped in
     record {
-      fed = pair_fed x piece out (get_or piece 0 0) (get_or piece 1 0) c.from_number.result c.step-written.result _ _ c.if-piece-ge2.true refl refl none (c.from_number.ensures ∙ ap signal_of number) step;
-      went = pair_went x piece out (get_or piece 0 0) (get_or piece 1 0) c.from_number.result c.step-written.result _ _ c.if-piece-ge2.true refl refl none (c.from_number.ensures ∙ ap signal_of number) step c.requires.room;
+      fed = pair_fed x piece out (get_or piece 0 0) (get_or piece 1 0) c.from.result c.step-written.result _ _ c.if-piece-ge2.true refl refl none (c.from.ensures ∙ ap signal_of number) step;
+      went = pair_went x piece out (get_or piece 0 0) (get_or piece 1 0) c.from.result c.step-written.result _ _ c.if-piece-ge2.true refl refl none (c.from.ensures ∙ ap signal_of number) step c.requires.room;
       within = c.if-piece-ge2.true;
       moves = omega arith;
       short = omega (arith, c.step-written.ensures.short);

@@ -10,6 +10,6 @@ pub returns-in-Some : goal.returns-in-Some
 returns-in-Some c =
     let number : c.from_be_bytes.result ≡ c.in-Some.high * 256 + c.args.byte = search rules in
     record {
-      took = λ input es L. took_second input es c.in-Some.high c.args.byte _ c.args.out.now _ _ _ _ _ L c.in-Some.is (c.from_number.ensures ∙ ap signal_of number) refl refl refl c.step.ensures.stepped;
+      took = λ input es L. took_second input es c.in-Some.high c.args.byte _ c.args.out.now _ _ _ _ _ L c.in-Some.is (c.from.ensures ∙ ap signal_of number) refl refl refl c.step.ensures.stepped;
       short = c.step.ensures.short;
     }
