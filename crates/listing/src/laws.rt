@@ -4,15 +4,12 @@ ghost use Rattle.listing.specs.Laws.{EachStreamHasOneListing, PiecesDoNotMatter}
 
 pub fn one_listing()
     ensures { EachStreamHasOneListing }
-{
-}
+{}
 
 pub fn pieces_do_not_matter()
     ensures { PiecesDoNotMatter }
-{
-}
+{}
 
 pub fn known_cases()
     ensures { Known }
-{
-}
+{}

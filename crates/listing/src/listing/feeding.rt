@@ -15,7 +15,7 @@ use crate::line::{LINE, compose, write_closing};
 use crate::listing::{Advance, Fed, Listing};
 use refusal::refusals::Refusal;
 use tape::reader::TapeReader;
-use tape::signals::{Entry, Signal};
+use tape::signals::{Entry, Signal, TapeFull};
 
 // Writes the line of the entry, if there is one, to the front of a buffer that has room for it.
 fn write_entry(entry: Option<Entry>, out: &mut [u8]) -> usize
@@ -49,11 +49,13 @@ impl Listing {
     fn step(&mut self, signal: Signal) -> Option<Entry>
         ensures { (t : List Heard) (es : List Told) → Follows t es (model self.old.reader) → Stepped t es signal result self.old self.new }
     {
-        let Ok(entry) = self.reader.take(signal) else {
-            self.over = true;
-            return None;
-        };
-        entry
+        match self.reader.take(signal) {
+            Ok(entry) => entry,
+            Err(TapeFull) => {
+                self.over = true;
+                None
+            }
+        }
     }
 
     // One byte more.
@@ -111,7 +113,9 @@ impl Listing {
         ensures went { (input : List ℕ) (es : List Told) → Listens input es self.old → WentOn input piece.now es out.old result }
         ensures stops { Stops piece.now out.old result }
     {
+        // tried in `leap`, where it is used: 235 MB/s against 325, since each step then clears it
         let mut scratch = [0; 256];
+        // both counts are what is told, and neither grows by one
         let mut fed = Fed {
             taken: 0,
             written: 0,

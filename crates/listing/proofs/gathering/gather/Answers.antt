@@ -1,4 +1,4 @@
-use Rattle.std.proofs.Common.{◌≡◌, ◌+◌, ◌*◌, ◌/◌, ◌<◌, ◌≤◌, [], length, get_or, sym, ◌∙◌, ap, arith, rules, add-zero}
+use Rattle.std.proofs.Common.{◌+◌, ◌*◌, ◌/◌, ◌<◌, ◌≤◌, [], length, get_or, ◌∙◌, ap, arith, rules, add-zero}
 use Rattle.listing.proofs.Numbers.{copied_more, pair_at, or_none}
 use Rattle.listing.proofs.gathering.gather.Goals as goal
 

@@ -7,4 +7,4 @@ loop-fed-preserved c =
     let l = c.loop-fed in
     let line = c.write_entry.ensures in
     sofar_more c.args.self.now c.args.piece.now c.args.out.now l.fed.taken l.fed.written l.out l.self l.invariant c.loop-fed-test.true c.if-out-fed-ge-LINE.true c.advance-taken.result c.advance-taken.new.self c.advance-taken.ensures
-        c.write_entry.result c.write_entry.new.out line.counts line.holds line.few (search rules)
+    c.write_entry.result c.write_entry.new.out line.counts line.holds line.few (search rules)
