@@ -19,7 +19,7 @@ module _ (p : Packet Record) (before now : List ℕ) (room : length before ≡ 1
   pub house_small : {r : Result ℕ Refusal} (n : ℕ) → Put (house_of p) before r now → r ≡ Ok n → n ≤ 18
   house_small n P e = omega (arith, house_size n P e, house_short p)
 
-  house_is : {r : Result ℕ Refusal} (n : ℕ) → Put (house_of p) before r now → r ≡ Ok n → take n now ≡ house_of p
+  pub house_is : {r : Result ℕ Refusal} (n : ℕ) → Put (house_of p) before r now → r ≡ Ok n → take n now ≡ house_of p
   house_is n P e =
       ap (take n) (put_holds (house_of p) before fits P) ∙ take_at (house_of p) (drop (length (house_of p)) before) n (sym (house_size n P e))
 

@@ -1,11 +1,12 @@
 -- Signals of streams that are put together and cut.
-use Rattle.std.proofs.Common.{◌≡◌, ℕ, zero, suc, ◌+◌, ◌*◌, ◌/◌, ◌<◌, ◌≤◌, cond, List, [], ◌∷◌, ◌++◌, map, length, get_or, take, set, None, sym, refl, ap, ◌∙◌, append_assoc, arith, length-take-le, lt-ltb}
+use Rattle.std.proofs.Common.{◌≡◌, ℕ, zero, suc, ◌+◌, ◌*◌, ◌-◌, ◌/◌, ◌<◌, ◌≤◌, cond, List, [], ◌∷◌, ◌++◌, map, length, get_or, take, drop, set, None, sym, refl, ap, ◌∙◌, append_assoc, arith, length-take-le, lt-ltb}
 use lib.Bits.{bit_or, or_add_and, and_le_l, and_le_r}
-use Rattle.std.proofs.lemmas.List.{take_more, take_more_set, map-append}
+use Rattle.std.proofs.lemmas.List.{take_more, take_more_set, map-append, get_or-take, get_or-drop}
+use Rattle.std.specs.List.{slice_range}
+use Rattle.std.specs.Simd.{first_chunks}
 use Rattle.tape.specs.declared.signals.Signal.TheVariants.{Byte, Pause}
 use Rattle.tape.specs.Numbers.{signal_of}
 use Rattle.listing.specs.Listing.{signals, odd}
-use Rattle.listing.specs.Gathered.{Gathered}
 
 pub signals_append : (input more : List ℕ) → odd input ≡ None → signals (input ++ more) ≡ signals input ++ signals more
 signals_append [] more e = refl
@@ -45,27 +46,35 @@ byte_is l h =
 pub or_none : (a b : ℕ) → bit_or a b ≡ 0 → (a ≡ 0) × (b ≡ 0)
 or_none a b e = (omega (arith, or_add_and a b, and_le_l a b, and_le_r a b), omega (arith, or_add_and a b, and_le_l a b, and_le_r a b))
 
-pub gathered_none : (numbers frame : List ℕ) → Gathered numbers 0 frame
-gathered_none numbers frame = record { fits = omega arith; bytes = refl }
+-- the first i numbers are the first i bytes of a frame
+abbrev pub Copied : List ℕ → List ℕ → ℕ → Type 0
+Copied numbers frame i = signals (take (2 * i) numbers) ≡ map Byte (take i frame)
 
 -- one number more
-pub gathered_more : (numbers frame : List ℕ) (i : ℕ) → 2 * (i + 1) ≤ length numbers → i < length frame → get_or numbers (2 * i) 0 ≡ 0 → get_or numbers (2 * i + 1) 0 < 256 → Gathered numbers i frame → Gathered numbers (i + 1) (set frame i (get_or numbers (2 * i + 1) 0))
-gathered_more numbers frame i fits room zero_is small G =
-    let h = get_or numbers (2 * i) 0 in
-    let l = get_or numbers (2 * i + 1) 0 in
+pub copied_more : (numbers frame : List ℕ) (i h l : ℕ) → 2 * (i + 1) ≤ length numbers → i < length frame → h ≡ get_or numbers (2 * i) 0 → l ≡ get_or numbers (2 * i + 1) 0 → h ≡ 0 → l < 256 → Copied numbers frame i → Copied numbers (set frame i l) (i + 1)
+copied_more numbers frame i h l fits room h-is l-is zero_is small C =
     let front = take (2 * i) numbers in
     let two : take (2 * (i + 1)) numbers ≡ front ++ (h ∷ l ∷ []) =
-    ap (λ n. take n numbers) (twice i) ∙ take_more numbers (2 * i + 1) 0 (omega arith) ∙ ap (λ t. t ++ l ∷ []) (take_more numbers (2 * i) 0 (omega arith)) ∙ append_assoc front (h ∷ []) (l ∷ []) in
+    ap (λ n. take n numbers) (twice i) ∙ take_more numbers (2 * i + 1) 0 (omega arith)
+    ∙ (λ j. take_more numbers (2 * i) 0 (omega arith) j ++ sym l-is j ∷ []) ∙ append_assoc front _ (l ∷ []) ∙ ap (λ v. front ++ (v ∷ l ∷ [])) (sym h-is) in
     let even : odd front ≡ None = odd_even front i (length-take-le (2 * i) numbers (omega arith)) in
-    record {
-      fits = fits;
-      bytes =
-          ap signals two ∙ signals_append front (h ∷ l ∷ []) even
-          ∙ ap (λ t. t ++ signal_of (h * 256 + l) ∷ []) G.bytes
-          ∙ ap (λ s. map Byte (take i frame) ++ s ∷ []) (ap (λ n. signal_of (n * 256 + l)) zero_is ∙ byte_is l small)
-          ∙ sym (map-append Byte (take i frame) (l ∷ []))
-          ∙ ap (map Byte) (sym (take_more_set frame i l room));
-    }
+    ap signals two ∙ signals_append front (h ∷ l ∷ []) even
+    ∙ ap (λ t. t ++ signal_of (h * 256 + l) ∷ []) C
+    ∙ ap (λ s. map Byte (take i frame) ++ s ∷ []) (ap (λ n. signal_of (n * 256 + l)) zero_is ∙ byte_is l small)
+    ∙ sym (map-append Byte (take i frame) (l ∷ []))
+    ∙ ap (map Byte) (sym (take_more_set frame i l room))
   where
     twice : (i : ℕ) → 2 * (i + 1) ≡ 2 * i + 1 + 1
     twice i = omega arith
+
+-- the byte j of the pair i
+chunk_at : (k : ℕ) (xs : List ℕ) (i j : ℕ) → i < k → j < 2 → get_or (get_or (first_chunks 2 k xs) i []) j 0 ≡ get_or xs (2 * i + j) 0
+chunk_at zero xs i j h two = absurd (omega arith)
+chunk_at (suc k) xs zero j h two = let n : j ≡ 2 * 0 + j = omega arith in get_or-take 2 xs j 0 two ∙ ap (λ m. get_or xs m 0) n
+chunk_at (suc k) xs (suc i) j h two =
+    let n : 2 + (2 * i + j) ≡ 2 * suc i + j = omega arith in
+    chunk_at k (drop 2 xs) i j (omega arith) two ∙ get_or-drop 2 xs (2 * i + j) 0 ∙ ap (λ m. get_or xs m 0) n
+
+pub pair_at : (xs : List ℕ) (chunks pairs : List (List ℕ)) (k size i j : ℕ) → chunks ≡ first_chunks 2 k xs → pairs ≡ slice_range chunks 0 size → size ≤ k → i < size → j < 2 → get_or (get_or pairs i []) j 0 ≡ get_or xs (2 * i + j) 0
+pair_at xs chunks pairs k size i j c p few h two =
+    ap (λ l. get_or (get_or l i []) j 0) p ∙ ap (λ p. get_or p j 0) (get_or-take (size - 0) chunks i [] (omega arith)) ∙ ap (λ l. get_or (get_or l i []) j 0) c ∙ chunk_at k xs i j (omega arith) two

@@ -1,5 +1,6 @@
 -- Streams that grow by a byte, and what a listing of them becomes.
-use Rattle.std.proofs.Common.{◌≡◌, ℕ, zero, suc, ◌+◌, ◌-◌, ◌*◌, ◌/◌, ◌<◌, ◌≤◌, true, false, cond, ltb, List, [], ◌∷◌, ◌++◌, length, get_or, take, drop, Some, None, sym, refl, ap, ◌∙◌, subst, append_assoc, append-nil, arith, length-append, length-drop, take-append-drop, length-take-le, take_all, drop-drop, take-add, le-ltb, lt-ltb, eq-eqb, ne_eqb}
+use Rattle.std.proofs.Common.{◌≡◌, ℕ, zero, suc, ◌+◌, ◌-◌, ◌*◌, ◌/◌, ◌<◌, ◌≤◌, true, false, cond, ltb, List, [], ◌∷◌, ◌++◌, length, get_or, take, drop, Some, None, Option, sym, refl, ap, ◌∙◌, subst, append_assoc, append-nil, arith, length-append, length-drop, take-append-drop, length-take-le, take_all, drop-drop, take-add, take-take, le-ltb, lt-ltb, eq-eqb, ne_eqb}
+use Rattle.std.specs.Option.{option_to_list}
 use mathlib.Core.List.{append_cancel_left}
 use native.Mathlib.Decide.{dec_lt}
 use borrow.Rule.Slice.PartMut.{put_mid}
@@ -18,20 +19,10 @@ use Rattle.listing.proofs.Numbers.{signals_append, odd_append, signals_take}
 use Rattle.listing.proofs.Texts.{length_kept}
 use Rattle.listing.specs.declared.listing.Listing.{Listing}
 use Rattle.listing.specs.declared.listing.Fed.{Fed}
+use Rattle.listing.specs.declared.listing.Advance.{Advance}
 use Rattle.listing.specs.Lines.{lines, line_of}
 use Rattle.listing.specs.Listing.{signals, odd, tape_of, Listens, FedOn, WentOn}
-use Rattle.listing.specs.Steps.{Stepped, Took}
-
--- a byte that begins a signal number
-first_signals : (input : List ℕ) (b : ℕ) → odd input ≡ None → signals (input ++ b ∷ []) ≡ signals input
-first_signals [] b e = refl
-first_signals (h ∷ []) b e = let z : ◌≡◌ {A = ℕ} 0 1 = cc in absurd (omega arith)
-first_signals (h ∷ l ∷ bs) b e = ap (λ ss. signal_of (h * 256 + l) ∷ ss) (first_signals bs b e)
-
-first_odd : (input : List ℕ) (b : ℕ) → odd input ≡ None → odd (input ++ b ∷ []) ≡ Some b
-first_odd [] b e = refl
-first_odd (h ∷ []) b e = let z : ◌≡◌ {A = ℕ} 0 1 = cc in absurd (omega arith)
-first_odd (h ∷ l ∷ bs) b e = first_odd bs b e
+use Rattle.listing.specs.Steps.{Stepped, Hears, Waits, Advances}
 
 -- a byte that ends one
 second_signals : (input : List ℕ) (h b : ℕ) → odd input ≡ Some h → signals (input ++ b ∷ []) ≡ signals input ++ signal_of (h * 256 + b) ∷ []
@@ -136,35 +127,72 @@ tape_grows input more =
 renamed : {t u : List Signal} {es fs : List Entry} (x : Listing) → t ≡ u → es ≡ fs → Follows t es (model x.reader) → Follows u fs (model x.reader)
 renamed {t} {u} {es} {fs} x e f F = subst (λ l. Follows u l (model x.reader)) f (subst (λ l. Follows l es (model x.reader)) e F)
 
-pub took_first : (input : List ℕ) (es : List Entry) (b : ℕ) (out : List ℕ) (x y : Listing) → Listens input es x → x.high ≡ None → y.reader ≡ x.reader → y.high ≡ Some b → y.over ≡ x.over → Took input es b out 0 out y
-took_first input es b out x y L none er eh eo =
+-- the first byte of a signal number
+pub hears_first : (x : Listing) (b : ℕ) → x.high ≡ None → Hears x (b ∷ []) [] (record x { high = Some b })
+hears_first x b none input es L =
     let free = sym L.waits ∙ none in
-    let same = first_signals input b free in
+    let same : signals (input ++ b ∷ []) ≡ signals input = signals_append input (b ∷ []) free ∙ append-nil (signals input) in
     record {
-      more = [];
-      listens = record {
-        follows = subst (λ r. Follows (tape_of (input ++ b ∷ [])) (es ++ []) (model r)) (sym er) (renamed x (ap (take limit) (sym same)) (sym (append-nil es)) L.follows);
-        waits = eh ∙ sym (first_odd input b free);
-        over = eo ∙ L.over ∙ ap (λ ss. ltb limit (length ss)) (sym same);
-      };
-      counts = refl;
-      holds = refl;
+      follows = renamed x (ap (take limit) (sym same)) (sym (append-nil es)) L.follows;
+      waits = sym (odd_append input (b ∷ []) free);
+      over = L.over ∙ ap (λ ss. ltb limit (length ss)) (sym same);
     }
 
-pub took_second : (input : List ℕ) (es : List Entry) (h b : ℕ) (s : Signal) (out : List ℕ) (n : ℕ) (after : List ℕ) (x y z : Listing) → Listens input es x → x.high ≡ Some h → s ≡ signal_of (h * 256 + b) → y.reader ≡ x.reader → y.high ≡ None → y.over ≡ x.over → ((t : List Signal) (fs : List Entry) → Follows t fs (model y.reader) → Stepped t fs s out n after y z) → Took input es b out n after z
-took_second input es h b s out n after x y z L some es-is er eh eo step =
-    let waits = sym L.waits ∙ some in
-    let S = step (tape_of input) es (subst (λ r. Follows (tape_of input) es (model r)) (sym er) L.follows) in
-    let sig = second_signals input h b waits ∙ ap (λ v. signals input ++ v ∷ []) (sym es-is) in
+-- bytes that end a signal number: that of s
+abbrev pub Ends : Listing → List ℕ → Signal → Type 0
+Ends x bytes s = (input : List ℕ) → odd input ≡ x.high → (signals (input ++ bytes) ≡ signals input ++ s ∷ []) × (odd (input ++ bytes) ≡ None)
+
+pub hears_number : (x z : Listing) (bytes : List ℕ) (s : Signal) (r : Option Entry) → Ends x bytes s → ((t : List Signal) (es : List Entry) → Follows t es (model x.reader) → Stepped t es s r (record x { high = None }) z) → Hears x bytes (option_to_list r) z
+hears_number x z bytes s r ends step input es L =
+    let E = ends input (sym L.waits) in
+    let S = step (tape_of input) es L.follows in
     record {
-      more = S.more;
-      listens = record {
-        follows = renamed z (sym (tape_more (signals input) s) ∙ ap (take limit) (sym sig)) refl S.follows;
-        waits = S.waits ∙ eh ∙ sym (second_odd input h b waits);
-        over = S.over ∙ ap (λ v. cond (full (tape_of input)) true v) (eo ∙ L.over) ∙ sym (over_more (signals input) s) ∙ ap (λ ss. ltb limit (length ss)) (sym sig);
-      };
-      counts = S.counts;
-      holds = S.holds;
+      follows = renamed z (sym (tape_more (signals input) s) ∙ ap (take limit) (sym E.0)) refl S.follows;
+      waits = S.waits ∙ sym E.1;
+      over = S.over ∙ ap (λ v. cond (full (tape_of input)) true v) L.over ∙ sym (over_more (signals input) s) ∙ ap (λ ss. ltb limit (length ss)) (sym E.0);
+    }
+
+pub ends_second : (x : Listing) (h b : ℕ) → x.high ≡ Some h → Ends x (b ∷ []) (signal_of (h * 256 + b))
+ends_second x h b some input e = (second_signals input h b (e ∙ some), second_odd input h b (e ∙ some))
+
+pub ends_pair : (x : Listing) (h l : ℕ) → x.high ≡ None → Ends x (h ∷ l ∷ []) (signal_of (h * 256 + l))
+ends_pair x h l none input e = (signals_append input (h ∷ l ∷ []) (e ∙ none), odd_append input (h ∷ l ∷ []) (e ∙ none))
+
+-- no signal, no entry
+pub waits_still : (x : Listing) (bytes : List ℕ) → ((input : List ℕ) → odd input ≡ x.high → (i : ℕ) → i < length bytes → signals (input ++ take i bytes) ≡ signals input) → Waits x bytes
+waits_still x bytes still input es L i lt fs q r R =
+    let here : tape_of (input ++ take i bytes) ≡ tape_of input = ap (take limit) (still input (sym L.waits) i lt) in
+    let same = (reads_one (subst (λ t. Reads 0 t (es ++ fs) q r) here R) L.follows.reads).entries in
+    append_cancel_left es fs [] (same ∙ sym (append-nil es))
+
+-- one byte, taken as the front of a piece
+pub byte_advances : (x : Listing) (piece : List ℕ) (r : Option Entry) (z : Listing) → 0 < length piece → Hears x (get_or piece 0 0 ∷ []) (option_to_list r) z → Advances x piece z (record { taken = 1; entry = r })
+byte_advances x piece r z some hears =
+    let first : take 1 piece ≡ get_or piece 0 0 ∷ [] = take_more piece 0 0 some in
+    record {
+      within = omega (arith, some);
+      moves = omega arith;
+      hears = subst (λ l. Hears x l (option_to_list r) z) (sym first) hears;
+      waits = waits_still x (take 1 piece) (λ input e i h.
+          let none : i ≡ 0 = omega (arith, length-take-le 1 piece some) in
+          ap (λ k. signals (input ++ take k (take 1 piece))) none ∙ ap signals (append-nil input));
+    }
+
+-- a signal number, taken as the front of a piece
+pub pair_advances : (x : Listing) (piece : List ℕ) (s : Signal) (r : Option Entry) (z : Listing) → 2 ≤ length piece → x.high ≡ None → s ≡ signal_of (get_or piece 0 0 * 256 + get_or piece 1 0) → ((t : List Signal) (es : List Entry) → Follows t es (model x.reader) → Stepped t es s r x z) → Advances x piece z (record { taken = 2; entry = r })
+pair_advances x piece s r z two none s-is step =
+    let h = get_or piece 0 0 in
+    let l = get_or piece 1 0 in
+    let pair : take 2 piece ≡ h ∷ l ∷ [] = take_more piece 1 0 two ∙ (λ i. take_more piece 0 0 (omega arith) i ++ l ∷ []) in
+    let taken : (t : List Signal) (es : List Entry) → Follows t es (model x.reader) → Stepped t es s r (record x { high = None }) z =
+    λ t es F. let S = step t es F in record { follows = S.follows; waits = S.waits ∙ none; over = S.over } in
+    record {
+      within = two;
+      moves = omega arith;
+      hears = subst (λ b. Hears x b (option_to_list r) z) (sym pair) (hears_number x z (h ∷ l ∷ []) s r (subst (Ends x (h ∷ l ∷ [])) (sym s-is) (ends_pair x h l none)) taken);
+      waits = waits_still x (take 2 piece) (λ input e i lt.
+          let half : i / 2 ≡ 0 = omega (arith, length-take-le 2 piece two) in
+          signals_append input (take i (take 2 piece)) (e ∙ none) ∙ ap (λ ss. signals input ++ ss) (signals_take i (take 2 piece) ∙ ap (λ k. take k (signals (take 2 piece))) half) ∙ append-nil (signals input));
     }
 
 pub lines_append : (es fs : List Entry) → lines (es ++ fs) ≡ lines es ++ lines fs
@@ -183,152 +211,88 @@ behind out now part ls ms w n ew eo en ep =
     ∙ ap (λ l. ls ++ l) (append-nil (ms ++ drop (w + n) out))
     ∙ sym (append_assoc ls ms (drop (w + n) out))
 
--- the first `taken` bytes of a piece were fed
-pub record Sofar (x : Listing) (piece out : List ℕ) (taken written : ℕ) (now : List ℕ) (y : Listing) : Type 0 where
-  pub within : taken ≤ length piece
+-- so much of a piece was fed
+pub record Sofar (x : Listing) (piece out : List ℕ) (fed : Fed) (now : List ℕ) (y : Listing) : Type 0 where
+  pub within : fed.taken ≤ length piece
   pub long : length now ≡ length out
-  pub fits : written ≤ length out
-  pub slow : written ≤ 50 * taken
-  pub fed : (input : List ℕ) (es : List Entry) → Listens input es x → FedOn input piece es out (record { taken = taken; written = written }) now y
-  pub went : (input : List ℕ) (es : List Entry) → Listens input es x → WentOn input piece es out (record { taken = taken; written = written })
+  pub fits : fed.written ≤ length out
+  pub slow : fed.written ≤ 50 * fed.taken
+  pub goes : (input : List ℕ) (es : List Entry) → Listens input es x → FedOn input piece es out fed now y
+  pub went : (input : List ℕ) (es : List Entry) → Listens input es x → WentOn input piece es out fed
 
-pub fed_none : (x : Listing) (input piece : List ℕ) (es : List Entry) (out : List ℕ) → Listens input es x → FedOn input piece es out (record { taken = 0; written = 0 }) out x
-fed_none x input piece es out L = record {
-  more = [];
-  listens = subst (λ l. Listens l (es ++ []) x) (sym (append-nil input)) (subst (λ l. Listens input l x) (sym (append-nil es)) L);
-  counts = refl;
-  holds = refl;
-}
-
-pub sofar_none : (x : Listing) (piece out : List ℕ) → Sofar x piece out 0 0 out x
+pub sofar_none : (x : Listing) (piece out : List ℕ) → Sofar x piece out (record { taken = 0; written = 0 }) out x
 sofar_none x piece out = record {
   within = omega arith;
   long = refl;
   fits = omega arith;
   slow = omega arith;
-  fed = λ input es L. fed_none x input piece es out L;
+  goes = λ input es L. record {
+    more = [];
+    listens = subst (λ l. Listens l (es ++ []) x) (sym (append-nil input)) (subst (λ l. Listens input l x) (sym (append-nil es)) L);
+    counts = refl;
+    holds = refl;
+  };
   went = λ input es L i h. absurd (omega arith);
 }
 
--- what comes behind the first bytes of a piece: the rest of it was fed as told
-module _ (x : Listing) (piece out : List ℕ) (i w : ℕ) (now : List ℕ) (y : Listing) (S : Sofar x piece out i w now y) (told : Fed) (part : List ℕ) (z : Listing) (lt : i < length piece) (room : 50 ≤ length now - w)
-    (fed : (input : List ℕ) (es : List Entry) → Listens input es y → FedOn input (take (length piece - i) (drop i piece)) es (take (length now - w) (drop w now)) told part z)
-    (went : (input : List ℕ) (es : List Entry) → Listens input es y → WentOn input (take (length piece - i) (drop i piece)) es (take (length now - w) (drop w now)) told)
-    (within : told.taken ≤ length (take (length piece - i) (drop i piece))) (slow : told.written ≤ 50 * told.taken) (small : told.written ≤ 50) where
+-- one step more, from the byte i on, and the line of its entry, from the place w on
+module _ (x : Listing) (piece out : List ℕ) (i w : ℕ) (now : List ℕ) (y : Listing) (S : Sofar x piece out (record { taken = i; written = w }) now y) (lt : i < length piece) (room : 50 ≤ length now - w) (told : Advance) (z : Listing) (A : Advances y (take (length piece - i) (drop i piece)) z told)
+    (n : ℕ) (part : List ℕ) (counts : n ≡ length (lines (option_to_list told.entry))) (holds : part ≡ lines (option_to_list told.entry) ++ drop n (take (length now - w) (drop w now))) (small : n ≤ 50) where
   rest : take (length piece - i) (drop i piece) ≡ drop i piece
   rest = take_all (length piece - i) (drop i piece) (omega (arith, length-drop i piece))
 
   rest_long : length (take (length piece - i) (drop i piece)) ≡ length piece - i
   rest_long = ap length rest ∙ length-drop i piece
 
-  out_long : length (take (length now - w) (drop w now)) ≡ length now - w
-  out_long = ap length (take_all (length now - w) (drop w now) (omega (arith, length-drop w now))) ∙ length-drop w now
+  -- the stream with the first k bytes of the step
+  stream : (input : List ℕ) (k : ℕ) → k ≤ told.taken → (input ++ take i piece) ++ take k (take told.taken (take (length piece - i) (drop i piece))) ≡ input ++ take (i + k) piece
+  stream input k h =
+      append_assoc input (take i piece) _
+      ∙ ap (λ l. input ++ l) (ap (λ l. take i piece ++ l) (take-take k told.taken _ h ∙ ap (take k) rest) ∙ sym (take-add i k piece))
 
-  -- the stream with the first k bytes of the rest
-  stream : (input : List ℕ) (k : ℕ) → (input ++ take i piece) ++ take k (take (length piece - i) (drop i piece)) ≡ input ++ take (i + k) piece
-  stream input k = append_assoc input (take i piece) _ ∙ ap (λ l. input ++ l) (ap (λ l. take i piece ++ take k l) rest ∙ sym (take-add i k piece))
-
-  fed_more : (input : List ℕ) (es : List Entry) → Listens input es x → FedOn input piece es out (record { taken = i + told.taken; written = w + told.written }) (put_mid w (length now - w) now part) z
-  fed_more input es L =
-      let F = S.fed input es L in
-      let T = fed (input ++ take i piece) (es ++ F.more) F.listens in
-      let all = lines_append F.more T.more in
+  goes_more : (input : List ℕ) (es : List Entry) → Listens input es x → FedOn input piece es out (record { taken = i + told.taken; written = w + n }) (put_mid w (length now - w) now part) z
+  goes_more input es L =
+      let F = S.goes input es L in
+      let came = option_to_list told.entry in
+      let H = A.hears (input ++ take i piece) (es ++ F.more) F.listens in
+      let all = lines_append F.more came in
+      let whole : (input ++ take i piece) ++ take told.taken (take (length piece - i) (drop i piece)) ≡ input ++ take (i + told.taken) piece =
+      ap (λ l. (input ++ take i piece) ++ l) (sym (take-take told.taken told.taken _ (omega arith))) ∙ stream input told.taken (omega arith) in
       record {
-        more = F.more ++ T.more;
-        listens = subst (λ l. Listens l (es ++ (F.more ++ T.more)) z) (stream input told.taken) (subst (λ l. Listens ((input ++ take i piece) ++ take told.taken (take (length piece - i) (drop i piece))) l z) (append_assoc es F.more T.more) T.listens);
-        counts = omega (arith, F.counts, T.counts, ap length all, length-append (lines F.more) (lines T.more));
-        holds = behind out now part (lines F.more) (lines T.more) w told.written F.counts F.holds T.counts T.holds ∙ ap (λ l. l ++ drop (w + told.written) out) (sym all);
+        more = F.more ++ came;
+        listens = subst (λ l. Listens l (es ++ (F.more ++ came)) z) whole (subst (λ l. Listens ((input ++ take i piece) ++ take told.taken (take (length piece - i) (drop i piece))) l z) (append_assoc es F.more came) H);
+        counts = omega (arith, F.counts, counts, ap length all, length-append (lines F.more) (lines came));
+        holds = behind out now part (lines F.more) (lines came) w n F.counts F.holds counts holds ∙ ap (λ l. l ++ drop (w + n) out) (sym all);
       }
 
-  -- a byte of the rest
+  -- a byte of the step
   went_rest : (input : List ℕ) (es : List Entry) → Listens input es x → (k : ℕ) → k < told.taken → (fs : List Entry) (q : ℕ) (r : List ℕ) → Reads 0 (tape_of (input ++ take (i + k) piece)) (es ++ fs) q r → length (lines fs) + 50 ≤ length out
   went_rest input es L k lk fs q r R =
-      let F = S.fed input es L in
+      let F = S.goes input es L in
       let here = input ++ take i piece in
-      let more = tape_grows here (take k (take (length piece - i) (drop i piece))) in
-      let R' : Reads 0 (tape_of (here ++ take k (take (length piece - i) (drop i piece)))) (es ++ fs) q r = subst (λ l. Reads 0 (tape_of l) (es ++ fs) q r) (sym (stream input k)) R in
+      let bytes = take told.taken (take (length piece - i) (drop i piece)) in
+      let more = tape_grows here (take k bytes) in
+      let R' : Reads 0 (tape_of (here ++ take k bytes)) (es ++ fs) q r = subst (λ l. Reads 0 (tape_of l) (es ++ fs) q r) (sym (stream input k (omega arith))) R in
       let kept = entries_stay (tape_of here) more.0 (es ++ F.more) (es ++ fs) _ q _ r (tape_bytes here) more.1 F.listens.follows.reads (subst (λ t. Reads 0 t (es ++ fs) q r) more.2 R') in
       let same : fs ≡ F.more ++ kept.0 = append_cancel_left es fs (F.more ++ kept.0) (kept.1 ∙ append_assoc es F.more kept.0) in
-      let R'' : Reads 0 (tape_of (here ++ take k (take (length piece - i) (drop i piece)))) ((es ++ F.more) ++ kept.0) q r = subst (λ l. Reads 0 (tape_of (here ++ take k (take (length piece - i) (drop i piece)))) l q r) kept.1 R' in
-      let last = went here (es ++ F.more) F.listens k lk kept.0 q r R'' in
-      omega (arith, last, out_long, S.long, F.counts, ap (λ l. length (lines l)) same, ap length (lines_append F.more kept.0), length-append (lines F.more) (lines kept.0))
+      let none = A.waits here (es ++ F.more) F.listens k (omega (arith, length-take-le told.taken _ A.within)) kept.0 q r (subst (λ l. Reads 0 (tape_of (here ++ take k bytes)) l q r) kept.1 R') in
+      omega (arith, room, S.long, F.counts, ap (λ l. length (lines l)) (same ∙ ap (λ l. F.more ++ l) none ∙ append-nil F.more))
 
-  went_more : (input : List ℕ) (es : List Entry) → Listens input es x → WentOn input piece es out (record { taken = i + told.taken; written = w + told.written })
+  went_more : (input : List ℕ) (es : List Entry) → Listens input es x → WentOn input piece es out (record { taken = i + told.taken; written = w + n })
   went_more input es L j lj fs q r R =
       elim (dec_lt j i) [
         | yes h ↦ S.went input es L j h fs q r R
         | no h ↦
             let e : j ≡ i + (j - i) = omega arith in
-            went_rest input es L (j - i) (omega arith) fs q r (subst (λ n. Reads 0 (tape_of (input ++ take n piece)) (es ++ fs) q r) e R)
+            went_rest input es L (j - i) (omega arith) fs q r (subst (λ m. Reads 0 (tape_of (input ++ take m piece)) (es ++ fs) q r) e R)
       ]
 
-  pub sofar_more : length part ≡ length now - w → Sofar x piece out (i + told.taken) (w + told.written) (put_mid w (length now - w) now part) z
+  pub sofar_more : length part ≡ length now - w → Sofar x piece out (record { taken = i + told.taken; written = w + n }) (put_mid w (length now - w) now part) z
   sofar_more kept = record {
-    within = omega (arith, rest_long);
+    within = omega (arith, rest_long, A.within);
     long = length_kept w (length now - w) now part (omega (arith, S.fits, S.long)) kept ∙ S.long;
     fits = omega (arith, S.fits, S.long);
-    slow = omega (arith, S.slow);
-    fed = fed_more;
+    slow = omega (arith, S.slow, A.moves);
+    goes = goes_more;
     went = went_more;
   }
-
--- one byte, taken as the front of a piece
-module _ (x : Listing) (piece out : List ℕ) (b n : ℕ) (after : List ℕ) (y : Listing) (some : 0 < length piece) (is : b ≡ get_or piece 0 0) (took : (input : List ℕ) (es : List Entry) → Listens input es x → Took input es b out n after y) where
-  first : take 1 piece ≡ b ∷ []
-  first = take_more piece 0 0 some ∙ ap (λ v. v ∷ []) (sym is)
-
-  pub byte_fed : (input : List ℕ) (es : List Entry) → Listens input es x → FedOn input piece es out (record { taken = 1; written = n }) after y
-  byte_fed input es L =
-      let T = took input es L in
-      record {
-        more = T.more;
-        listens = subst (λ l. Listens (input ++ l) (es ++ T.more) y) (sym first) T.listens;
-        counts = T.counts;
-        holds = T.holds;
-      }
-
-  pub byte_went : 50 ≤ length out → (input : List ℕ) (es : List Entry) → Listens input es x → WentOn input piece es out (record { taken = 1; written = n })
-  byte_went wide input es L i h fs q r R =
-      let z : i ≡ 0 = omega arith in
-      let here : tape_of (input ++ take i piece) ≡ tape_of input = ap (λ k. tape_of (input ++ take k piece)) z ∙ ap tape_of (append-nil input) in
-      let same = (reads_one (subst (λ t. Reads 0 t (es ++ fs) q r) here R) L.follows.reads).entries in
-      let gone : fs ≡ [] = append_cancel_left es fs [] (same ∙ sym (append-nil es)) in
-      omega (arith, ap (λ l. length (lines l)) gone)
-
--- a signal number, taken as the front of a piece
-module _ (x : Listing) (piece out : List ℕ) (h l : ℕ) (s : Signal) (n : ℕ) (after : List ℕ) (z : Listing) (two : 2 ≤ length piece) (h-is : h ≡ get_or piece 0 0) (l-is : l ≡ get_or piece 1 0) (none : x.high ≡ None) (s-is : s ≡ signal_of (h * 256 + l)) (step : (t : List Signal) (fs : List Entry) → Follows t fs (model x.reader) → Stepped t fs s out n after x z) where
-  pair : take 2 piece ≡ h ∷ l ∷ []
-  pair = take_more piece 1 0 (omega arith) ∙ (λ i. (take_more piece 0 0 (omega arith) ∙ ap (λ v. v ∷ []) (sym h-is)) i ++ sym l-is i ∷ [])
-
-  pub pair_fed : (input : List ℕ) (es : List Entry) → Listens input es x → FedOn input piece es out (record { taken = 2; written = n }) after z
-  pair_fed input es L =
-      let free = sym L.waits ∙ none in
-      let S = step (tape_of input) es L.follows in
-      let sig : signals (input ++ take 2 piece) ≡ signals input ++ s ∷ [] = ap (λ p. signals (input ++ p)) pair ∙ signals_append input (h ∷ l ∷ []) free ∙ ap (λ v. signals input ++ v ∷ []) (sym s-is) in
-      record {
-        more = S.more;
-        listens = record {
-          follows = renamed z (sym (tape_more (signals input) s) ∙ ap (take limit) (sym sig)) refl S.follows;
-          waits = S.waits ∙ none ∙ sym (ap (λ p. odd (input ++ p)) pair ∙ odd_append input (h ∷ l ∷ []) free);
-          over = S.over ∙ ap (λ v. cond (full (tape_of input)) true v) L.over ∙ sym (over_more (signals input) s) ∙ ap (λ ss. ltb limit (length ss)) (sym sig);
-        };
-        counts = S.counts;
-        holds = S.holds;
-      }
-
-  pub pair_went : 50 ≤ length out → (input : List ℕ) (es : List Entry) → Listens input es x → WentOn input piece es out (record { taken = 2; written = n })
-  pair_went wide input es L i lt fs q r R =
-      let free = sym L.waits ∙ none in
-      let none_new : signals (take i piece) ≡ [] = signals_take i piece ∙ ap (λ k. take k (signals piece)) (halved i lt) in
-      let here : tape_of (input ++ take i piece) ≡ tape_of input = ap (take limit) (signals_append input (take i piece) free ∙ ap (λ l. signals input ++ l) none_new ∙ append-nil (signals input)) in
-      let same = (reads_one (subst (λ t. Reads 0 t (es ++ fs) q r) here R) L.follows.reads).entries in
-      let gone : fs ≡ [] = append_cancel_left es fs [] (same ∙ sym (append-nil es)) in
-      omega (arith, ap (λ l. length (lines l)) gone)
-    where
-      halved : (i : ℕ) → i < 2 → i / 2 ≡ 0
-      halved i h = omega arith
-
--- a step from a state that is another by an equation
-pub stepped_still : {x y : Listing} {out now : List ℕ} {s : Signal} {n : ℕ} {after : List ℕ} {z : Listing} → x ≡ y → out ≡ now → ((t : List Signal) (fs : List Entry) → Follows t fs (model y.reader) → Stepped t fs s now n after y z) → (t : List Signal) (fs : List Entry) → Follows t fs (model x.reader) → Stepped t fs s out n after x z
-stepped_still {x} {y} {out} {now} {s} {n} {after} {z} e o step t fs F =
-    subst (λ v. Stepped t fs s out n after v z) (sym e) (subst (λ l. Stepped t fs s l n after y z) (sym o) (step t fs (subst (λ v. Follows t fs (model v.reader)) e F)))

@@ -1,7 +1,7 @@
 -- Text that grows in a buffer.
-use Rattle.std.proofs.Common.{◌≡◌, ℕ, ◌+◌, ◌-◌, ◌*◌, ◌/◌, ◌%◌, ◌<◌, ◌≤◌, List, [], ◌∷◌, ◌++◌, length, get_or, take, drop, set, sym, refl, ap, ◌∙◌, subst, append_assoc, arith, length-append, length-drop, length-set, take-append-drop, length-take-le, drop-drop}
+use Rattle.std.proofs.Common.{◌≡◌, ℕ, ◌+◌, ◌-◌, ◌*◌, ◌/◌, ◌%◌, ◌<◌, ◌≤◌, List, [], ◌∷◌, ◌++◌, length, get_or, take, drop, set, sym, refl, ap, ◌∙◌, subst, append_assoc, arith, length-append, length-drop, length-set, take-append-drop, length-take-le, drop-drop, take-add}
 use borrow.Rule.Slice.PartMut.{put_mid}
-use Rattle.std.proofs.lemmas.List.{take_more, take_more_set, drop-set-lt}
+use Rattle.std.proofs.lemmas.List.{take_more, take_more_set, drop-set-lt, take_at, drop_at, drop-append-le}
 use Rattle.std.proofs.lemmas.Slice.{take-put_mid, drop-put_mid}
 use Rattle.listing.specs.Text.{hex, hex_digit, Grown}
 
@@ -36,11 +36,8 @@ pub grown_same : (out after : List ℕ) (at e : ℕ) (a b : List ℕ) → a ≡ 
 grown_same out after at e a b p G = subst (λ l. Grown out at l after e) p G
 
 -- text that was written from the front on
-pub grown_front : (out more after : List ℕ) (e : ℕ) → Grown out 0 more after e → after ≡ more ++ drop e out
-grown_front out more after e G = sym (take-append-drop e after) ∙ (λ i. G.text i ++ G.rest i)
-
-pub grown_size : (out more after : List ℕ) (e : ℕ) → Grown out 0 more after e → e ≡ length more
-grown_size out more after e G = omega (arith, G.ends)
+pub grown_front : (out more after : List ℕ) (at e : ℕ) → at ≡ 0 → Grown out at more after e → after ≡ more ++ drop e out
+grown_front out more after at e none G = sym (take-append-drop e after) ∙ (λ i. (G.text ∙ ap (λ k. take k out ++ more) none) i ++ G.rest i)
 
 hex_append : (xs ys : List ℕ) → hex (xs ++ ys) ≡ hex xs ++ hex ys
 hex_append [] ys = refl
@@ -62,16 +59,35 @@ grown_two out mid at e xs h l fits G =
     succ e = omega arith
 
 -- one byte more in hexadecimal
-pub grown_hex : (out mid : List ℕ) (at e i : ℕ) (more : List ℕ) (b h l : ℕ) → e + 2 ≤ length mid → i < length more → b ≡ get_or more i 0 → h ≡ hex_digit (b / 16) → l ≡ hex_digit (b % 16) → Grown out at (hex (take i more)) mid e → Grown out at (hex (take (i + 1) more)) (set (set mid e h) (e + 1) l) (e + 2)
-grown_hex out mid at e i more b h l fits lt eb eh el G =
+pub grown_hex : (out mid : List ℕ) (at e f i : ℕ) (more : List ℕ) (h l : ℕ) → f ≡ e + 2 → f ≤ length mid → i < length more → h ≡ hex_digit (get_or more i 0 / 16) → l ≡ hex_digit (get_or more i 0 % 16) → Grown out at (hex (take i more)) mid e → Grown out at (hex (take (i + 1) more)) (set (set mid e h) (e + 1) l) f
+grown_hex out mid at e f i more h l next fits lt eh el G =
+    let b = get_or more i 0 in
     let text : hex (take i more) ++ (h ∷ l ∷ []) ≡ hex (take (i + 1) more) =
-    ap (λ t. hex (take i more) ++ t) (λ j. eh j ∷ el j ∷ []) ∙ sym (hex_append (take i more) (b ∷ [])) ∙ ap hex (ap (λ v. take i more ++ v ∷ []) eb ∙ sym (take_more more i 0 lt)) in
-    grown_same out _ at (e + 2) _ _ text (grown_two out mid at e (hex (take i more)) h l fits G)
+    ap (λ t. hex (take i more) ++ t) (λ j. eh j ∷ el j ∷ []) ∙ sym (hex_append (take i more) (b ∷ [])) ∙ ap hex (sym (take_more more i 0 lt)) in
+    let after = set (set mid e h) (e + 1) l in
+    subst (λ n. Grown out at (hex (take (i + 1) more)) after n) (sym next) (grown_same out after at (e + 2) _ _ text (grown_two out mid at e (hex (take i more)) h l (omega arith) G))
 
 pub length_hex : (xs : List ℕ) → length (hex xs) ≡ 2 * length xs
 length_hex [] = refl
 length_hex (x ∷ xs) = omega (arith, length_hex xs)
 
+-- digits that were written down to a place
+pub grown_digits : (out after digits : List ℕ) (at start end : ℕ) → start + length digits ≡ end → end ≡ at + length digits → drop start after ≡ digits ++ drop end out → take start after ≡ take start out → Grown out at digits after end
+grown_digits out after digits at start end starts ends written before =
+    let here : start ≡ at = omega (arith, starts, ends) in
+    let size = length digits in record {
+      ends = ends;
+      text =
+          ap (λ k. take k after) (sym starts) ∙ take-add start size after
+          ∙ (λ i. (before ∙ ap (λ k. take k out) here) i ++ (ap (take size) written ∙ take_at digits (drop end out) size refl) i);
+      rest = ap (λ k. drop k after) (sym starts) ∙ sym (drop-drop size start after) ∙ ap (drop size) written ∙ drop_at digits (drop end out) size refl;
+    }
+
 -- the text that was written, as a part of the buffer
 pub grown_part : (out more after : List ℕ) (e : ℕ) → Grown out 0 more after e → take (e - 0) after ≡ more
 grown_part out more after e G = let n : e - 0 ≡ e = omega arith in ap (λ k. take k after) n ∙ G.text
+
+-- what lies behind a place of the first bytes of a buffer
+pub front_rest : (n k : ℕ) (out front : List ℕ) → k ≤ length out → front ≡ take k out → n ≤ k → drop n front ++ drop k out ≡ drop n out
+front_rest n k out front room e h =
+    ap (λ l. drop n l ++ drop k out) e ∙ sym (drop-append-le n (take k out) (drop k out) (omega (arith, length-take-le k out room))) ∙ ap (drop n) (take-append-drop k out)

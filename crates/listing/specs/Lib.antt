@@ -1,5 +1,6 @@
 pub mod Text
 pub mod Lines
+pub mod Pens
 pub mod Listing
 pub mod Steps
 pub mod Gathered

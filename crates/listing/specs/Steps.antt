@@ -1,24 +1,33 @@
--- What one signal and one byte do to a listing: for the calls that no other crate sees.
-use Rattle.std.specs.Prelude.{◌≡◌, ℕ, true, cond, List, [], ◌∷◌, ◌++◌, length, drop}
+-- What one signal, some bytes and one step do to a listing: for the calls that no other crate sees.
+use Rattle.std.specs.Prelude.{◌≡◌, ℕ, ◌<◌, ◌≤◌, true, cond, List, [], ◌++◌, length, take, Option}
+use Rattle.std.specs.Option.{option_to_list}
 use Rattle.tape.specs.declared.signals.Signal.{Signal}
 use Rattle.tape.specs.declared.signals.Entry.{Entry}
 use Rattle.tape.specs.Follow.{Follows, heard, full, model}
+use Rattle.tape.specs.Reading.{Reads}
 use Rattle.listing.specs.declared.listing.Listing.{Listing}
-use Rattle.listing.specs.Lines.{lines}
-use Rattle.listing.specs.Listing.{Listens}
+use Rattle.listing.specs.declared.listing.Advance.{Advance}
+use Rattle.listing.specs.Listing.{tape_of, Listens}
 
--- the signal s behind the tape t
-pub record Stepped (t : List Signal) (es : List Entry) (s : Signal) (out : List ℕ) (n : ℕ) (after : List ℕ) (x y : Listing) : Type 0 where
-  pub more : List Entry
-  pub follows : Follows (heard t s) (es ++ more) (model y.reader)
+-- the signal s behind the tape t: it completes the entry r, if any
+pub record Stepped (t : List Signal) (es : List Entry) (s : Signal) (r : Option Entry) (x y : Listing) : Type 0 where
+  pub follows : Follows (heard t s) (es ++ option_to_list r) (model y.reader)
   pub waits : y.high ≡ x.high
   pub over : y.over ≡ cond (full t) true x.over
-  pub counts : n ≡ length (lines more)
-  pub holds : after ≡ lines more ++ drop n out
 
--- the byte b behind the stream `input`
-pub record Took (input : List ℕ) (es : List Entry) (b : ℕ) (out : List ℕ) (n : ℕ) (after : List ℕ) (x : Listing) : Type 0 where
-  pub more : List Entry
-  pub listens : Listens (input ++ b ∷ []) (es ++ more) x
-  pub counts : n ≡ length (lines more)
-  pub holds : after ≡ lines more ++ drop n out
+-- the listing x is fed `bytes`, behind whatever it was fed, and is y: they complete the entries `more`
+abbrev pub Hears : Listing → List ℕ → List Entry → Listing → Type 0
+Hears x bytes more y = (input : List ℕ) (es : List Entry) → Listens input es x → Listens (input ++ bytes) (es ++ more) y
+
+-- no entry is complete before the last of `bytes`
+abbrev pub Waits : Listing → List ℕ → Type 0
+Waits x bytes =
+    (input : List ℕ) (es : List Entry) → Listens input es x → (i : ℕ) → i < length bytes → (fs : List Entry) (q : ℕ) (r : List ℕ) → Reads 0 (tape_of (input ++ take i bytes)) (es ++ fs) q r → fs ≡ []
+
+-- a step of the listing x, which then is y, takes at least one byte from the front of the piece; the last one completes the entry
+-- that is told, if any
+pub record Advances (x : Listing) (piece : List ℕ) (y : Listing) (told : Advance) : Type 0 where
+  pub within : told.taken ≤ length piece
+  pub moves : 0 < told.taken
+  pub hears : Hears x (take told.taken piece) (option_to_list told.entry) y
+  pub waits : Waits x (take told.taken piece)

@@ -1,37 +1,24 @@
 // Frames that lie whole, with no pause in them, at the front of a stream of signal numbers.
-ghost use Rattle.std.specs.Prelude.{◌≡◌, ◌*◌, ◌<◌, ◌≤◌, true, length};
+ghost use Rattle.std.specs.Prelude.{IfSome};
 ghost use Rattle.listing.specs.Gathered.{Gathered};
 
-// The bytes of such a frame go to the front of the buffer, and their number is told; 0 where there is none.
-pub(crate) fn gather(numbers: &[u8], frame: &mut [u8]) -> usize
-    requires { 256 ≤ length frame.old }
-    ensures found { 0 < result → Gathered numbers.now result frame.new }
-    ensures few { result ≤ 256 }
+// The bytes of such a frame, if there is one, gathered in the buffer.
+pub(crate) fn gather<'a>(numbers: &[u8], frame: &'a mut [u8; 256]) -> Option<&'a [u8]>
+    ensures { IfSome result (λ f. Gathered numbers.now f.now) }
 {
-    let [high, low, ..] = numbers else {
-        return 0;
+    let (pairs, _) = numbers.as_chunks::<2>();
+    let [[0, len], ..] = pairs else {
+        return None;
     };
-    let size = *low as usize + 1;
-    if *high != 0 || numbers.len() < 2 * size {
-        return 0;
+    let size = *len as usize + 1;
+    let pairs = pairs.get(..size)?;
+    let mut highs = 0;
+    for (i, [high, low]) in pairs.iter().enumerate() {
+        highs |= *high;
+        frame[i] = *low;
     }
-    if copy_low(numbers, size, frame) {
-        size
-    } else {
-        0
+    if highs != 0 {
+        return None;
     }
-}
-
-// Copies the low bytes of the first numbers; whether all of them are numbers of bytes.
-fn copy_low(numbers: &[u8], size: usize, frame: &mut [u8]) -> bool
-    requires numbers { 2 * size ≤ length numbers.now }
-    requires frame { size ≤ length frame.old }
-    ensures { result ≡ true → Gathered numbers.now size frame.new }
-{
-    let mut highs = 0u8;
-    for i in 0..size {
-        highs |= numbers[2 * i];
-        frame[i] = numbers[2 * i + 1];
-    }
-    highs == 0
+    Some(&frame[..size])
 }

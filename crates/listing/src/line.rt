@@ -1,10 +1,10 @@
 // The lines of a listing.
-ghost use Rattle.std.specs.Prelude.{◌+◌, ◌≤◌, length};
+ghost use Rattle.std.specs.Prelude.{◌≡◌, ◌+◌, ◌≤◌, ◌++◌, length, drop};
 ghost use Rattle.refusal.specs.Output.{Put};
-ghost use Rattle.listing.specs.Lines.{line_of, record_part, fault_part, verdict_part, closing_of};
-ghost use Rattle.listing.specs.Text.{Grown};
+ghost use Rattle.listing.specs.Lines.{line_of, closing_of};
 
-use crate::text::{append, append_decimal, append_hex};
+pub use crate::text::LINE;
+use crate::text::Pen;
 use frame::faults::Fault;
 use frame::packet::Packet;
 use house::writing::write_house;
@@ -13,54 +13,60 @@ use refusal::output::put;
 use refusal::refusals::Refusal;
 use tape::signals::Entry;
 
-// The longest line has so many bytes: a place of ten digits, ` R `, a house record of 18 bytes in hexadecimal, and the newline.
-pub const LINE: usize = 50;
+impl Pen<'_> {
+    ghost use Rattle.listing.specs.Lines.{record_part, fault_part, verdict_part};
+    ghost use Rattle.listing.specs.Pens.{Writes};
 
-fn append_record(out: &mut [u8], at: usize, packet: &Packet<Record>) -> usize
-    requires { at + 39 ≤ length out.old }
-    ensures text { Grown out.old at (record_part packet.now) out.new result }
-    ensures few { result ≤ at + 39 }
-{
-    let at = append(out, at, b" R ");
-    let mut house = [0; 18];
-    // 18 bytes hold every house record
-    match write_house(packet, &mut house) {
-        Ok(size) => append_hex(out, at, &house[0..size]),
-        Err(_) => at,
+    fn append_record(&mut self, packet: &Packet<Record>)
+        requires { self.old.len + 39 ≤ 50 }
+        ensures same_reference { self.new.out.ghost_name ≡ self.old.out.ghost_name }
+        ensures writes { Writes self.old (record_part packet.now) self.new }
+        ensures few { self.new.len ≤ self.old.len + 39 }
+    {
+        self.append(b" R ");
+        let mut house = [0; 18];
+        // 18 bytes hold every house record
+        if let Ok(size) = write_house(packet, &mut house) {
+            self.append_hex(&house[..size]);
+        }
     }
-}
 
-fn append_fault(out: &mut [u8], at: usize, fault: Fault) -> usize
-    requires { at + 39 ≤ length out.old }
-    ensures text { Grown out.old at (fault_part fault) out.new result }
-    ensures few { result ≤ at + 39 }
-{
-    let at = append(out, at, b" F ");
-    let at = append_decimal(out, at, fault.cause() as u32);
-    let at = append(out, at, b" ");
-    append_decimal(out, at, fault.offset() as u32)
-}
+    fn append_fault(&mut self, fault: Fault)
+        requires { self.old.len + 39 ≤ 50 }
+        ensures same_reference { self.new.out.ghost_name ≡ self.old.out.ghost_name }
+        ensures writes { Writes self.old (fault_part fault) self.new }
+        ensures few { self.new.len ≤ self.old.len + 39 }
+    {
+        self.append(b" F ");
+        self.append_decimal(fault.cause() as u32);
+        self.append(b" ");
+        self.append_decimal(fault.offset() as u32);
+    }
 
-fn append_verdict(out: &mut [u8], at: usize, verdict: Result<Packet<Record>, Fault>) -> usize
-    requires { at + 39 ≤ length out.old }
-    ensures text { Grown out.old at (verdict_part verdict) out.new result }
-    ensures few { result ≤ at + 39 }
-{
-    match verdict {
-        Ok(packet) => append_record(out, at, &packet),
-        Err(fault) => append_fault(out, at, fault),
+    fn append_verdict(&mut self, verdict: &Result<Packet<Record>, Fault>)
+        requires { self.old.len + 39 ≤ 50 }
+        ensures same_reference { self.new.out.ghost_name ≡ self.old.out.ghost_name }
+        ensures writes { Writes self.old (verdict_part verdict.now) self.new }
+        ensures few { self.new.len ≤ self.old.len + 39 }
+    {
+        match verdict {
+            Ok(packet) => self.append_record(packet),
+            Err(fault) => self.append_fault(*fault),
+        }
     }
 }
 
 // Writes the line of an entry to the front of a buffer that has room for the longest.
-pub(crate) fn compose(entry: &Entry, out: &mut [u8]) -> usize
-    requires { 50 ≤ length out.old }
-    ensures text { Grown out.old 0 (line_of entry.now) out.new result }
+pub(crate) fn compose(entry: &Entry, out: &mut [u8; LINE]) -> usize
+    ensures counts { result ≡ length (line_of entry.now) }
+    ensures holds { out.new ≡ line_of entry.now ++ drop result out.old }
     ensures few { result ≤ 50 }
 {
-    let at = append_decimal(out, 0, entry.place);
-    let at = append_verdict(out, at, entry.verdict);
-    append(out, at, b"\n")
+    let mut pen = Pen::new(out);
+    pen.append_decimal(entry.place);
+    pen.append_verdict(&entry.verdict);
+    pen.append(b"\n");
+    pen.len()
 }
 
 // Puts the line of an entry at the front of the buffer.
@@ -69,7 +75,7 @@ pub fn write_line(entry: &Entry, out: &mut [u8]) -> Result<usize, Refusal>
 {
     let mut line = [0; LINE];
     let size = compose(entry, &mut line);
-    put(&line[0..size], out)
+    put(&line[..size], out)
 }
 
 // Puts the closing line, of so many signals and so many bytes of the frame begun, at the front of the buffer.
@@ -77,10 +83,12 @@ pub fn write_closing(signals: u32, begun: u8, out: &mut [u8]) -> Result<usize, R
     ensures { Put (closing_of signals begun) out.old result out.new }
 {
     let mut closing = [0; LINE];
-    let at = append(&mut closing, 0, b"E ");
-    let at = append_decimal(&mut closing, at, signals);
-    let at = append(&mut closing, at, b" ");
-    let at = append_decimal(&mut closing, at, begun as u32);
-    let size = append(&mut closing, at, b"\n");
-    put(&closing[0..size], out)
+    let mut pen = Pen::new(&mut closing);
+    pen.append(b"E ");
+    pen.append_decimal(signals);
+    pen.append(b" ");
+    pen.append_decimal(begun as u32);
+    pen.append(b"\n");
+    let size = pen.len();
+    put(&closing[..size], out)
 }

@@ -1,5 +1,6 @@
 // What a listing in progress holds. Its calls are in `feeding`.
 use tape::reader::TapeReader;
+use tape::signals::Entry;
 
 pub mod feeding;
 
@@ -19,4 +20,10 @@ pub struct Fed {
     pub taken: usize,
     // to the output
     pub written: usize,
+}
+
+// One step of a listing: how many bytes it took, and the entry that they complete, if any.
+struct Advance {
+    taken: usize,
+    entry: Option<Entry>,
 }

@@ -1,6 +1,11 @@
-// Text that is written into a buffer, piece behind piece. Each call writes from a place on and tells the place behind.
-ghost use Rattle.std.specs.Prelude.{◌≡◌, ℕ, ◌+◌, ◌*◌, ◌^◌, ◌<◌, ◌≤◌, List, length, decimal};
-ghost use Rattle.listing.specs.Text.{hex, decimal_of, digit_of, Grown, Spelled};
+// A line that is being written.
+ghost use Rattle.std.specs.Prelude.{◌≡◌, ◌+◌, ◌*◌, ◌≤◌, [], ◌∷◌, length, decimal};
+ghost use Rattle.listing.specs.Text.{hex};
+
+use itoa::write_digits;
+
+// The longest line has so many bytes: a place of ten digits, ` R `, a house record of 18 bytes in hexadecimal, and the newline.
+pub const LINE: usize = 50;
 
 // The capital hexadecimal digits of every byte, two and two.
 const DIGITS: [u8; 512] = *b"\
@@ -13,112 +18,84 @@ const DIGITS: [u8; 512] = *b"\
     C0C1C2C3C4C5C6C7C8C9CACBCCCDCECFD0D1D2D3D4D5D6D7D8D9DADBDCDDDEDF\
     E0E1E2E3E4E5E6E7E8E9EAEBECEDEEEFF0F1F2F3F4F5F6F7F8F9FAFBFCFDFEFF";
 
-// The decimal digits of every number below a hundred, two and two.
-const DECIMALS: [u8; 200] = *b"\
-    0001020304050607080910111213141516171819\
-    2021222324252627282930313233343536373839\
-    4041424344454647484950515253545556575859\
-    6061626364656667686970717273747576777879\
-    8081828384858687888990919293949596979899";
-
-pub(crate) fn append(out: &mut [u8], at: usize, more: &[u8]) -> usize
-    requires { at + length more.now ≤ length out.old }
-    ensures { Grown out.old at more.now out.new result }
-{
-    let end = at + more.len();
-    out[at..end].copy_from_slice(more);
-    end
+// A pen writes a line into a buffer that has room for the longest.
+#[derive(Drop)]
+pub(crate) struct Pen<'a> {
+    out: &'a mut [u8; LINE],
+    // so many bytes of it are written
+    len: usize,
 }
 
 // How many digits a number has.
 fn digit_count(n: u32) -> usize
     ensures count { result ≡ length (decimal n) }
-    ensures some { 1 ≤ result }
     ensures few { result ≤ 10 }
 {
-    match n {
-        0..=9 => 1,
-        10..=99 => 2,
-        100..=999 => 3,
-        1_000..=9_999 => 4,
-        10_000..=99_999 => 5,
-        100_000..=999_999 => 6,
-        1_000_000..=9_999_999 => 7,
-        10_000_000..=99_999_999 => 8,
-        100_000_000..=999_999_999 => 9,
-        _ => 10,
+    n.max(1).ilog10() as usize + 1
+}
+
+// The two digits of a byte in hexadecimal.
+fn hex_pair(b: u8) -> [u8; 2]
+    ensures { result ≡ hex (b ∷ []) }
+{
+    let at = 2 * b as usize;
+    [DIGITS[at], DIGITS[at + 1]]
+}
+
+impl<'a> Pen<'a> {
+    ghost use Rattle.listing.specs.Pens.{Writes};
+
+    pub(crate) fn new(out: &'a mut [u8; LINE]) -> Pen<'a>
+        ensures same_reference { result.out.ghost_name ≡ out.entry.ghost_name }
+        ensures held { result.out.now ≡ out.old }
+        ensures none { result.len ≡ 0 }
+    {
+        Pen { out, len: 0 }
     }
-}
 
-// The digit at an index of the table.
-fn decimal_at(index: usize) -> u8
-    requires { index < 200 }
-    ensures { result ≡ decimal_of index }
-{
-    DECIMALS[index]
-}
-
-// What is left to be written of a number's digits, and the place of the last of them.
-struct Left {
-    rest: u32,
-    place: usize,
-}
-
-// Writes the digits of a number from a place down, two at a time, as long as three are left.
-fn spell_pairs(out: &mut [u8], place: usize, n: u32) -> Left
-    requires room { length (decimal n) ≤ place + 1 }
-    requires within { place < length out.old }
-    ensures spells { (before : List ℕ) (at m end : ℕ) → m < 2 ^ 32 → Spelled before at m end n place out.old → Spelled before at m end result.rest result.place out.new }
-    ensures few { result.rest < 100 }
-    ensures room { length (decimal result.rest) ≤ result.place + 1 }
-    ensures within { result.place < length out.old }
-{
-    let mut rest = n;
-    let mut place = place;
-    while rest >= 100 {
-        let index = 2 * (rest % 100) as usize;
-        out[place] = decimal_at(index + 1);
-        out[place - 1] = decimal_at(index);
-        rest /= 100;
-        place -= 2;
+    pub(crate) fn len(&self) -> usize
+        ensures { result ≡ self.now.len }
+    {
+        self.len
     }
-    Left { rest, place }
-}
 
-pub(crate) fn append_decimal(out: &mut [u8], at: usize, n: u32) -> usize
-    requires { at + 10 ≤ length out.old }
-    ensures text { Grown out.old at (decimal n) out.new result }
-    ensures few { result ≤ at + 10 }
-{
-    let end = at + digit_count(n);
-    let Left { rest, place } = spell_pairs(out, end - 1, n);
-    if rest < 10 {
-        out[place] = b'0' + rest as u8;
-        return end;
+    pub(crate) fn append(&mut self, more: &[u8])
+        requires { self.old.len + length more.now ≤ 50 }
+        ensures same_reference { self.new.out.ghost_name ≡ self.old.out.ghost_name }
+        ensures writes { Writes self.old more.now self.new }
+    {
+        let end = self.len + more.len();
+        let out = &mut *self.out;
+        out[self.len..end].copy_from_slice(more);
+        self.len = end;
     }
-    out[place] = b'0' + (rest % 10) as u8;
-    out[place - 1] = b'0' + (rest / 10) as u8;
-    end
-}
 
-// The digit at an index of the table.
-fn digit_at(index: usize) -> u8
-    requires { index < 512 }
-    ensures { result ≡ digit_of index }
-{
-    DIGITS[index]
-}
-
-pub(crate) fn append_hex(out: &mut [u8], at: usize, more: &[u8]) -> usize
-    requires { at + 2 * length more.now ≤ length out.old }
-    ensures { Grown out.old at (hex more.now) out.new result }
-{
-    let mut end = at;
-    for b in more {
-        let index = 2 * *b as usize;
-        out[end] = digit_at(index);
-        out[end + 1] = digit_at(index + 1);
-        end += 2;
+    #[inline(always)]
+    pub(crate) fn append_decimal(&mut self, n: u32)
+        requires { self.old.len + 10 ≤ 50 }
+        ensures same_reference { self.new.out.ghost_name ≡ self.old.out.ghost_name }
+        ensures writes { Writes self.old (decimal n) self.new }
+        ensures few { self.new.len ≤ self.old.len + 10 }
+    {
+        let end = self.len + digit_count(n);
+        let out = &mut *self.out;
+        write_digits(n as u64, out, end);
+        self.len = end;
     }
-    end
+
+    pub(crate) fn append_hex(&mut self, more: &[u8])
+        requires { self.old.len + 2 * length more.now ≤ 50 }
+        ensures same_reference { self.new.out.ghost_name ≡ self.old.out.ghost_name }
+        ensures writes { Writes self.old (hex more.now) self.new }
+        ensures few { self.new.len ≤ self.old.len + 2 * length more.now }
+    {
+        let at = self.len;
+        let out = &mut *self.out;
+        for (i, b) in more.iter().enumerate() {
+            let [high, low] = hex_pair(*b);
+            out[at + 2 * i] = high;
+            out[at + 2 * i + 1] = low;
+        }
+        self.len = at + 2 * more.len();
+    }
 }

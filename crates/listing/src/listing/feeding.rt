@@ -1,29 +1,36 @@
 // A stream listed piece by piece.
-ghost use Rattle.std.specs.Prelude.{◌≡◌, ℕ, ◌*◌, ◌<◌, ◌≤◌, List, [], ◌∷◌, ◌++◌, length, drop};
+ghost use Rattle.std.specs.Prelude.{◌≡◌, ℕ, ◌<◌, ◌≤◌, List, [], ◌∷◌, ◌++◌, length, drop, IfSome, None};
+ghost use Rattle.std.specs.Option.{option_to_list};
 ghost use Rattle.refusal.specs.Output.{Put};
 ghost use Rattle.tape.specs.declared.signals.Signal.{Signal as Heard};
-ghost use Rattle.tape.specs.declared.signals.Entry.{Entry};
+ghost use Rattle.tape.specs.declared.signals.Entry.{Entry as Told};
 ghost use Rattle.tape.specs.Follow.{Follows, model};
 ghost use Rattle.tape.specs.Reading.{Reads};
 ghost use Rattle.listing.specs.Lines.{lines, closing_of};
 ghost use Rattle.listing.specs.Listing.{tape_of, Listens, FedOn, WentOn, Stops};
-ghost use Rattle.listing.specs.Steps.{Stepped, Took};
+ghost use Rattle.listing.specs.Steps.{Stepped, Hears, Advances};
 
 use crate::gathering::gather;
 use crate::line::{LINE, compose, write_closing};
-use crate::listing::{Fed, Listing};
+use crate::listing::{Advance, Fed, Listing};
 use refusal::refusals::Refusal;
 use tape::reader::TapeReader;
-use tape::signals::{Entry, Signal};
+use tape::signals::{Entry, Signal, TapeFull};
 
-// Writes the line of an entry to the front of a buffer that has room for it.
-fn line_of(entry: &Entry, out: &mut [u8]) -> usize
+// Writes the line of the entry, if there is one, to the front of a buffer that has room for it.
+fn write_entry(entry: Option<Entry>, out: &mut [u8]) -> usize
     requires { 50 ≤ length out.old }
-    ensures counts { result ≡ length (lines (entry.now ∷ [])) }
-    ensures holds { out.new ≡ lines (entry.now ∷ []) ++ drop result out.old }
-    ensures short { result ≤ 50 }
+    ensures counts { result ≡ length (lines (option_to_list entry)) }
+    ensures holds { out.new ≡ lines (option_to_list entry) ++ drop result out.old }
+    ensures few { result ≤ 50 }
 {
-    compose(entry, out)
+    let Some(entry) = entry else {
+        return 0;
+    };
+    let Some(room) = out.first_chunk_mut::<LINE>() else {
+        return 0;
+    };
+    compose(&entry, room)
 }
 
 impl Listing {
@@ -38,112 +45,87 @@ impl Listing {
         }
     }
 
-    // One signal more: the line of the entry that it completes, if any, goes to the front of the buffer.
-    fn step(&mut self, signal: Signal, out: &mut [u8]) -> usize
-        requires { 50 ≤ length out.old }
-        ensures stepped { (t : List Heard) (es : List Entry) → Follows t es (model self.old.reader) → Stepped t es signal out.old result out.new self.old self.new }
-        ensures short { result ≤ 50 }
+    // One signal more: the entry that it completes, if any.
+    fn step(&mut self, signal: Signal) -> Option<Entry>
+        ensures { (t : List Heard) (es : List Told) → Follows t es (model self.old.reader) → Stepped t es signal result self.old self.new }
     {
-        let Ok(completed) = self.reader.take(signal) else {
-            self.over = true;
-            return 0;
-        };
-        match completed {
-            None => 0,
-            Some(entry) => line_of(&entry, out),
+        match self.reader.take(signal) {
+            Ok(entry) => entry,
+            Err(TapeFull) => {
+                self.over = true;
+                None
+            }
         }
     }
 
     // One byte more.
-    fn hear(&mut self, byte: u8, out: &mut [u8]) -> usize
-        requires { 50 ≤ length out.old }
-        ensures took { (input : List ℕ) (es : List Entry) → Listens input es self.old → Took input es byte out.old result out.new self.new }
-        ensures short { result ≤ 50 }
+    fn hear(&mut self, byte: u8) -> Option<Entry>
+        ensures { Hears self.old (byte ∷ []) (option_to_list result) self.new }
     {
-        match self.high {
-            None => {
-                self.high = Some(byte);
-                0
-            }
-            Some(high) => {
-                self.high = None;
-                self.step(Signal::from(u16::from_be_bytes([high, byte])), out)
-            }
-        }
+        let Some(high) = self.high else {
+            self.high = Some(byte);
+            return None;
+        };
+        self.high = None;
+        self.step(Signal::from(u16::from_be_bytes([high, byte])))
     }
 
-    // Takes a frame that lies whole at the front of the piece at once, and writes its line. Where there is none it takes nothing.
-    fn leap(&mut self, piece: &[u8], frame: &mut [u8], out: &mut [u8]) -> Fed
-        requires scratch { 256 ≤ length frame.old }
-        requires room { 50 ≤ length out.old }
-        ensures fed { (input : List ℕ) (es : List Entry) → Listens input es self.old → FedOn input piece.now es out.old result out.new self.new }
-        ensures went { (input : List ℕ) (es : List Entry) → Listens input es self.old → WentOn input piece.now es out.old result }
-        ensures within { result.taken ≤ length piece.now }
-        ensures short { result.written ≤ 50 * result.taken }
-        ensures one { result.written ≤ 50 }
-        ensures still { result.taken ≡ 0 → (out.new ≡ out.old) × (self.new ≡ self.old) }
+    // Takes a frame that lies whole at the front of the piece at once. Where there is none it takes nothing.
+    fn leap(&mut self, piece: &[u8], scratch: &mut [u8; 256]) -> Option<Advance>
+        ensures some { IfSome result (Advances self.old piece.now self.new) }
+        ensures none { result ≡ None → self.new ≡ self.old }
     {
-        let none = Fed {
-            taken: 0,
-            written: 0,
-        };
         if self.high.is_some() || self.reader.begun() != 0 {
-            return none;
+            return None;
         }
-        let size = gather(piece, frame);
-        if size == 0 {
-            return none;
-        }
-        match self.reader.take_frame(&frame[0..size]) {
-            None => none,
-            Some(entry) => Fed {
-                taken: 2 * size,
-                written: line_of(&entry, out),
-            },
-        }
+        let frame = gather(piece, scratch)?;
+        let entry = self.reader.take_frame(frame)?;
+        Some(Advance {
+            taken: 2 * frame.len(),
+            entry: Some(entry),
+        })
     }
 
     // Takes a whole frame, or else one signal number, or else one byte.
-    fn advance(&mut self, piece: &[u8], frame: &mut [u8], out: &mut [u8]) -> Fed
-        requires scratch { 256 ≤ length frame.old }
-        requires room { 50 ≤ length out.old }
-        requires some { 0 < length piece.now }
-        ensures fed { (input : List ℕ) (es : List Entry) → Listens input es self.old → FedOn input piece.now es out.old result out.new self.new }
-        ensures went { (input : List ℕ) (es : List Entry) → Listens input es self.old → WentOn input piece.now es out.old result }
-        ensures within { result.taken ≤ length piece.now }
-        ensures moves { 0 < result.taken }
-        ensures short { result.written ≤ 50 * result.taken }
-        ensures one { result.written ≤ 50 }
+    fn advance(&mut self, piece: &[u8], scratch: &mut [u8; 256]) -> Advance
+        requires { 0 < length piece.now }
+        ensures { Advances self.old piece.now self.new result }
     {
-        let leap = self.leap(piece, frame, out);
-        if leap.taken > 0 {
+        if let Some(leap) = self.leap(piece, scratch) {
             return leap;
         }
-        if self.high.is_none() && piece.len() >= 2 {
-            let number = u16::from_be_bytes([piece[0], piece[1]]);
-            let written = self.step(Signal::from(number), out);
-            return Fed { taken: 2, written };
+        match (self.high, piece) {
+            (None, [high, low, ..]) => Advance {
+                taken: 2,
+                entry: self.step(Signal::from(u16::from_be_bytes([*high, *low]))),
+            },
+            _ => Advance {
+                taken: 1,
+                entry: self.hear(piece[0]),
+            },
         }
-        let written = self.hear(piece[0], out);
-        Fed { taken: 1, written }
     }
 
     // Goes on with the listing: takes bytes from the front of the piece, and writes the lines that they complete to the front of
     // the buffer, as long as the buffer has room for a longest line.
     pub fn feed(&mut self, piece: &[u8], out: &mut [u8]) -> Fed
-        ensures fed { (input : List ℕ) (es : List Entry) → Listens input es self.old → FedOn input piece.now es out.old result out.new self.new }
-        ensures went { (input : List ℕ) (es : List Entry) → Listens input es self.old → WentOn input piece.now es out.old result }
+        ensures fed { (input : List ℕ) (es : List Told) → Listens input es self.old → FedOn input piece.now es out.old result out.new self.new }
+        ensures went { (input : List ℕ) (es : List Told) → Listens input es self.old → WentOn input piece.now es out.old result }
         ensures stops { Stops piece.now out.old result }
     {
-        let mut frame = [0; 256];
-        let mut taken = 0;
-        let mut written = 0;
-        while taken < piece.len() && out.len() - written >= LINE {
-            let fed = self.advance(&piece[taken..], &mut frame, &mut out[written..]);
-            taken += fed.taken;
-            written += fed.written;
+        // tried in `leap`, where it is used: 235 MB/s against 325, since each step then clears it
+        let mut scratch = [0; 256];
+        // both counts are what is told, and neither grows by one
+        let mut fed = Fed {
+            taken: 0,
+            written: 0,
+        };
+        while fed.taken < piece.len() && out.len() - fed.written >= LINE {
+            let Advance { taken, entry } = self.advance(&piece[fed.taken..], &mut scratch);
+            fed.written += write_entry(entry, &mut out[fed.written..]);
+            fed.taken += taken;
         }
-        Fed { taken, written }
+        fed
     }
 
     // Whether more signals came than are counted, so that the listing breaks off.
@@ -155,7 +137,7 @@ impl Listing {
 
     // Puts the closing line at the front of the buffer: the signals of the tape, and the bytes of its frame begun.
     pub fn close(&self, out: &mut [u8]) -> Result<usize, Refusal>
-        ensures closes { (input : List ℕ) (es : List Entry) (q : ℕ) (begun : List ℕ) → Listens input es self.now → Reads 0 (tape_of input) es q begun → Put (closing_of (length (tape_of input)) (length begun)) out.old result out.new }
+        ensures closes { (input : List ℕ) (es : List Told) (q : ℕ) (begun : List ℕ) → Listens input es self.now → Reads 0 (tape_of input) es q begun → Put (closing_of (length (tape_of input)) (length begun)) out.old result out.new }
         ensures puts { Put (closing_of (model self.now.reader).signals (model self.now.reader).held) out.old result out.new }
     {
         write_closing(self.reader.signals(), self.reader.begun(), out)

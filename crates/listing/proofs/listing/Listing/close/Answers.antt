@@ -9,12 +9,8 @@ use Rattle.listing.proofs.listing.Listing.close.Goals as goal
 restated : {out now : List ℕ} {r : Result ℕ Refusal} (s b n k : ℕ) → s ≡ n → b ≡ k → Put (closing_of s b) out r now → Put (closing_of n k) out r now
 restated {out} {now} {r} s b n k e f P = subst (λ l. Put l out r now) (λ i. closing_of (e i) (f i)) P
 
-pub returns : goal.returns
-returns c =
+pub returns-clause-closes : goal.returns-clause-closes
+returns-clause-closes c = λ input es q begun L R.
     let x = c.args.self.now.reader in
-    record {
-      closes = λ input es q begun L R.
-          let held = ap length (reads_one R L.follows.reads).begun ∙ length-take-le x.held x.begun x.sized in
-          restated _ _ _ _ (c.signals.ensures ∙ sym L.follows.count) (c.begun.ensures ∙ sym held) c.write_closing.ensures;
-      puts = restated _ _ _ _ c.signals.ensures c.begun.ensures c.write_closing.ensures;
-    }
+    let held = ap length (reads_one R L.follows.reads).begun ∙ length-take-le x.held x.begun x.sized in
+    restated _ _ _ _ (c.signals.ensures ∙ sym L.follows.count) (c.begun.ensures ∙ sym held) c.write_closing.ensures

@@ -2,9 +2,9 @@ use Rattle.std.proofs.Common.{rules}
 use Rattle.listing.proofs.Streams.{sofar_more}
 use Rattle.listing.proofs.listing.Listing.feed.Goals as goal
 
-pub loop-taken-preserved : goal.loop-taken-preserved
-loop-taken-preserved c = (
-  sofar_more c.args.self.now c.args.piece.now c.args.out.now c.loop-taken.taken c.loop-taken.written c.loop-taken.out c.loop-taken.self c.loop-taken.invariant.0 c.advance-fed.result c.advance-fed.new.out c.advance-fed.new.self
-      c.loop-taken-test.true c.if-out-written-ge-LINE.true c.advance-fed.ensures.fed c.advance-fed.ensures.went c.advance-fed.ensures.within c.advance-fed.ensures.short c.advance-fed.ensures.one (search rules),
-  search rules,
-)
+pub loop-fed-preserved : goal.loop-fed-preserved
+loop-fed-preserved c =
+    let l = c.loop-fed in
+    let line = c.write_entry.ensures in
+    sofar_more c.args.self.now c.args.piece.now c.args.out.now l.fed.taken l.fed.written l.out l.self l.invariant c.loop-fed-test.true c.if-out-fed-ge-LINE.true c.advance-taken.result c.advance-taken.new.self c.advance-taken.ensures
+    c.write_entry.result c.write_entry.new.out line.counts line.holds line.few (search rules)
