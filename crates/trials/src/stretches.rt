@@ -1,4 +1,4 @@
-// Stored stretches and the tokens that they hand out. In a text a byte is two hexadecimal digits.
+// Stored stretches and the tokens that they hand out.
 use std::alloc::Global;
 use std::process::Abort;
 use std::test::Fail;
