@@ -53,6 +53,7 @@ fn list(rt: &HostRuntime) -> anyhow::Result<()> {
     let mut stdin = rt.stdin();
     let mut stdout = rt.stdout();
     let mut listing = Listing::new();
+    // a count, since a stream may never end, and a loop is proved by a measure
     for _ in 0..u64::MAX {
         let size = stdin.read(&mut input)?;
         if size == 0 {
