@@ -37,11 +37,11 @@ fn pass<W: Write>(
 ) -> io::Result<()>
     requires { 50 ≤ length output.old }
 {
-    let mut at = 0;
-    while at < piece.len() {
-        let Fed { taken, written } = listing.feed(&piece[at..], output);
-        to.write_all(&output[0..written])?;
-        at += taken;
+    let mut rest = piece;
+    while !rest.is_empty() {
+        let Fed { taken, written } = listing.feed(rest, output);
+        to.write_all(&output[..written])?;
+        rest = &rest[taken..];
     }
     Ok(())
 }
@@ -53,20 +53,21 @@ fn list(rt: &HostRuntime) -> anyhow::Result<()> {
     let mut stdin = rt.stdin();
     let mut stdout = rt.stdout();
     let mut listing = Listing::new();
+    // a count, since a stream may never end, and a loop is proved by a measure
     for _ in 0..u64::MAX {
         let size = stdin.read(&mut input)?;
         if size == 0 {
             break;
         }
-        pass(&mut listing, &input[0..size], &mut output, &mut stdout)?;
+        pass(&mut listing, &input[..size], &mut output, &mut stdout)?;
         if listing.over() {
             return Err(anyhow!("more than 4294967295 signals: listed as far as these"));
         }
     }
-    match listing.close(&mut output) {
-        Ok(size) => stdout.write_all(&output[0..size])?,
-        Err(_) => return Err(anyhow!("no room for the closing line")),
-    }
+    let Ok(size) = listing.close(&mut output) else {
+        return Err(anyhow!("no room for the closing line"));
+    };
+    stdout.write_all(&output[..size])?;
     stdout.flush()?;
     Ok(())
 }

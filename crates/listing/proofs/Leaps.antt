@@ -1,5 +1,5 @@
 -- A whole frame of a stream, listed at once.
-use Rattle.std.proofs.Common.{◌≡◌, ℕ, ◌+◌, ◌*◌, ◌/◌, ◌<◌, ◌≤◌, true, false, List, [], ◌∷◌, ◌++◌, map, length, get_or, take, is_some, Some, None, Option, sym, refl, ap, ◌∙◌, subst, append-nil, arith, length-append, length-take, length-take-le, take_all, le-ltb}
+use Rattle.std.proofs.Common.{◌≡◌, ℕ, ◌+◌, ◌*◌, ◌/◌, ◌<◌, ◌≤◌, true, false, List, [], ◌∷◌, ◌++◌, map, length, get_or, take, Some, None, sym, refl, ap, ◌∙◌, subst, append-nil, arith, length-append, length-take, length-take-le, take_all, le-ltb}
 use mathlib.Core.List.{append_cancel_left}
 use Rattle.std.proofs.lemmas.List.{take-map, length-map}
 use Rattle.std.proofs.lemmas.Bool.Decides.{nat_tests}
@@ -93,7 +93,3 @@ module _ (x : Listing) (piece f : List ℕ) (none : x.high ≡ None) (G : Gather
     hears = λ input es L. leap_listens input es L a y (took (tape_of input) es L.follows) eh eo;
     waits = leap_none;
   }
-
-pub none_of : (o : Option ℕ) → is_some o ≡ false → o ≡ None
-none_of None e = refl
-none_of (Some h) e = let z : ◌≡◌ {A = ℕ} 0 1 = cc in absurd (omega arith)

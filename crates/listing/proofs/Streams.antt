@@ -16,7 +16,6 @@ use Rattle.tape.specs.Laws.{OfBytes}
 use Rattle.tape.proofs.Theorems.{entries_stay}
 use Rattle.tape.proofs.Unique.{reads_one}
 use Rattle.listing.proofs.Numbers.{signals_append, odd_append, signals_take}
-use Rattle.listing.proofs.Texts.{length_kept}
 use Rattle.listing.specs.declared.listing.Listing.{Listing}
 use Rattle.listing.specs.declared.listing.Fed.{Fed}
 use Rattle.listing.specs.declared.listing.Advance.{Advance}
@@ -214,7 +213,6 @@ behind out now part ls ms w n ew eo en ep =
 -- so much of a piece was fed
 pub record Sofar (x : Listing) (piece out : List ℕ) (fed : Fed) (now : List ℕ) (y : Listing) : Type 0 where
   pub within : fed.taken ≤ length piece
-  pub long : length now ≡ length out
   pub fits : fed.written ≤ length out
   pub slow : fed.written ≤ 50 * fed.taken
   pub goes : (input : List ℕ) (es : List Entry) → Listens input es x → FedOn input piece es out fed now y
@@ -223,7 +221,6 @@ pub record Sofar (x : Listing) (piece out : List ℕ) (fed : Fed) (now : List �
 pub sofar_none : (x : Listing) (piece out : List ℕ) → Sofar x piece out (record { taken = 0; written = 0 }) out x
 sofar_none x piece out = record {
   within = omega arith;
-  long = refl;
   fits = omega arith;
   slow = omega arith;
   goes = λ input es L. record {
@@ -236,7 +233,7 @@ sofar_none x piece out = record {
 }
 
 -- one step more, from the byte i on, and the line of its entry, from the place w on
-module _ (x : Listing) (piece out : List ℕ) (i w : ℕ) (now : List ℕ) (y : Listing) (S : Sofar x piece out (record { taken = i; written = w }) now y) (lt : i < length piece) (room : 50 ≤ length now - w) (told : Advance) (z : Listing) (A : Advances y (take (length piece - i) (drop i piece)) z told)
+module _ (x : Listing) (piece out : List ℕ) (i w : ℕ) (now : List ℕ) (y : Listing) (S : Sofar x piece out (record { taken = i; written = w }) now y) (long : length now ≡ length out) (lt : i < length piece) (room : 50 ≤ length now - w) (told : Advance) (z : Listing) (A : Advances y (take (length piece - i) (drop i piece)) z told)
     (n : ℕ) (part : List ℕ) (counts : n ≡ length (lines (option_to_list told.entry))) (holds : part ≡ lines (option_to_list told.entry) ++ drop n (take (length now - w) (drop w now))) (small : n ≤ 50) where
   rest : take (length piece - i) (drop i piece) ≡ drop i piece
   rest = take_all (length piece - i) (drop i piece) (omega (arith, length-drop i piece))
@@ -276,7 +273,7 @@ module _ (x : Listing) (piece out : List ℕ) (i w : ℕ) (now : List ℕ) (y : 
       let kept = entries_stay (tape_of here) more.0 (es ++ F.more) (es ++ fs) _ q _ r (tape_bytes here) more.1 F.listens.follows.reads (subst (λ t. Reads 0 t (es ++ fs) q r) more.2 R') in
       let same : fs ≡ F.more ++ kept.0 = append_cancel_left es fs (F.more ++ kept.0) (kept.1 ∙ append_assoc es F.more kept.0) in
       let none = A.waits here (es ++ F.more) F.listens k (omega (arith, length-take-le told.taken _ A.within)) kept.0 q r (subst (λ l. Reads 0 (tape_of (here ++ take k bytes)) l q r) kept.1 R') in
-      omega (arith, room, S.long, F.counts, ap (λ l. length (lines l)) (same ∙ ap (λ l. F.more ++ l) none ∙ append-nil F.more))
+      omega (arith, room, long, F.counts, ap (λ l. length (lines l)) (same ∙ ap (λ l. F.more ++ l) none ∙ append-nil F.more))
 
   went_more : (input : List ℕ) (es : List Entry) → Listens input es x → WentOn input piece es out (record { taken = i + told.taken; written = w + n })
   went_more input es L j lj fs q r R =
@@ -287,11 +284,10 @@ module _ (x : Listing) (piece out : List ℕ) (i w : ℕ) (now : List ℕ) (y : 
             went_rest input es L (j - i) (omega arith) fs q r (subst (λ m. Reads 0 (tape_of (input ++ take m piece)) (es ++ fs) q r) e R)
       ]
 
-  pub sofar_more : length part ≡ length now - w → Sofar x piece out (record { taken = i + told.taken; written = w + n }) (put_mid w (length now - w) now part) z
-  sofar_more kept = record {
+  pub sofar_more : Sofar x piece out (record { taken = i + told.taken; written = w + n }) (put_mid w (length now - w) now part) z
+  sofar_more = record {
     within = omega (arith, rest_long, A.within);
-    long = length_kept w (length now - w) now part (omega (arith, S.fits, S.long)) kept ∙ S.long;
-    fits = omega (arith, S.fits, S.long);
+    fits = omega (arith, S.fits, long);
     slow = omega (arith, S.slow, A.moves);
     goes = goes_more;
     went = went_more;

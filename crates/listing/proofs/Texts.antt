@@ -1,13 +1,9 @@
 -- Text that grows in a buffer.
-use Rattle.std.proofs.Common.{◌≡◌, ℕ, ◌+◌, ◌-◌, ◌*◌, ◌/◌, ◌%◌, ◌<◌, ◌≤◌, List, [], ◌∷◌, ◌++◌, length, get_or, take, drop, set, sym, refl, ap, ◌∙◌, subst, append_assoc, arith, length-append, length-drop, length-set, take-append-drop, length-take-le, drop-drop, take-add}
+use Rattle.std.proofs.Common.{◌≡◌, ℕ, ◌+◌, ◌-◌, ◌*◌, ◌/◌, ◌%◌, ◌<◌, ◌≤◌, List, [], ◌∷◌, ◌++◌, length, get_or, take, drop, set, sym, refl, ap, ◌∙◌, subst, append_assoc, arith, length-append, length-set, take-append-drop, length-take-le, drop-drop, take-add}
 use borrow.Rule.Slice.PartMut.{put_mid}
 use Rattle.std.proofs.lemmas.List.{take_more, take_more_set, drop-set-lt, take_at, drop_at, drop-append-le}
 use Rattle.std.proofs.lemmas.Slice.{take-put_mid, drop-put_mid}
 use Rattle.listing.specs.Text.{hex, hex_digit, Grown}
-
-pub length_kept : (n k : ℕ) (xs ys : List ℕ) → n + k ≤ length xs → length ys ≡ k → length (put_mid n k xs ys) ≡ length xs
-length_kept n k xs ys h e =
-    omega (arith, length-append (take n xs) (ys ++ drop k (drop n xs)), length-append ys (drop k (drop n xs)), length-take-le n xs (omega arith), length-drop k (drop n xs), length-drop n xs)
 
 -- one piece
 pub grown_once : (out more part : List ℕ) (at : ℕ) → at + length more ≤ length out → part ≡ more → Grown out at more (put_mid at (at + length more - at) out part) (at + length more)

@@ -8,6 +8,7 @@ use itoa::write_digits;
 pub const LINE: usize = 50;
 
 // The capital hexadecimal digits of every byte, two and two.
+// tried sixteen digits, with two look-ups for each byte: 303 MB/s against 320
 const DIGITS: [u8; 512] = *b"\
     000102030405060708090A0B0C0D0E0F101112131415161718191A1B1C1D1E1F\
     202122232425262728292A2B2C2D2E2F303132333435363738393A3B3C3D3E3F\
@@ -19,6 +20,7 @@ const DIGITS: [u8; 512] = *b"\
     E0E1E2E3E4E5E6E7E8E9EAEBECEDEEEFF0F1F2F3F4F5F6F7F8F9FAFBFCFDFEFF";
 
 // A pen writes a line into a buffer that has room for the longest.
+// tried as an array of its own, seen as a list by an impl Model, and copied once it is whole: 225 MB/s against 320
 #[derive(Drop)]
 pub(crate) struct Pen<'a> {
     out: &'a mut [u8; LINE],
@@ -77,6 +79,7 @@ impl<'a> Pen<'a> {
         ensures writes { Writes self.old (decimal n) self.new }
         ensures few { self.new.len ≤ self.old.len + 10 }
     {
+        // not `write!`: no clause says that it succeeds
         let end = self.len + digit_count(n);
         let out = &mut *self.out;
         write_digits(n as u64, out, end);
@@ -91,6 +94,7 @@ impl<'a> Pen<'a> {
     {
         let at = self.len;
         let out = &mut *self.out;
+        // by places, since std says nothing of what `as_chunks_mut` leaves in the buffer
         for (i, b) in more.iter().enumerate() {
             let [high, low] = hex_pair(*b);
             out[at + 2 * i] = high;

@@ -75,9 +75,9 @@ impl Listing {
         ensures some { IfSome result (Advances self.old piece.now self.new) }
         ensures none { result ≡ None → self.new ≡ self.old }
     {
-        if self.high.is_some() || self.reader.begun() != 0 {
+        let (None, 0) = (self.high, self.reader.begun()) else {
             return None;
-        }
+        };
         let frame = gather(piece, scratch)?;
         let entry = self.reader.take_frame(frame)?;
         Some(Advance {
