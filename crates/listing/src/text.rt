@@ -94,7 +94,7 @@ impl<'a> Pen<'a> {
     {
         let at = self.len;
         let out = &mut *self.out;
-        // by places, since std says nothing of what `as_chunks_mut` leaves in the buffer
+        // tried over `as_chunks_mut::<2>()` zipped with the bytes: no clause says what it leaves in the buffer
         for (i, b) in more.iter().enumerate() {
             let [high, low] = hex_pair(*b);
             out[at + 2 * i] = high;
