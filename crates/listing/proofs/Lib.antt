@@ -1,4 +1,5 @@
 pub mod Texts
+pub mod Pens
 pub mod Digits
 pub mod Table
 pub mod Houses

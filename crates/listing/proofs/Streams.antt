@@ -218,20 +218,6 @@ pub record Sofar (x : Listing) (piece out : List ℕ) (fed : Fed) (now : List �
   pub goes : (input : List ℕ) (es : List Entry) → Listens input es x → FedOn input piece es out fed now y
   pub went : (input : List ℕ) (es : List Entry) → Listens input es x → WentOn input piece es out fed
 
-pub sofar_none : (x : Listing) (piece out : List ℕ) → Sofar x piece out (record { taken = 0; written = 0 }) out x
-sofar_none x piece out = record {
-  within = omega arith;
-  fits = omega arith;
-  slow = omega arith;
-  goes = λ input es L. record {
-    more = [];
-    listens = subst (λ l. Listens l (es ++ []) x) (sym (append-nil input)) (subst (λ l. Listens input l x) (sym (append-nil es)) L);
-    counts = refl;
-    holds = refl;
-  };
-  went = λ input es L i h. absurd (omega arith);
-}
-
 -- one step more, from the byte i on, and the line of its entry, from the place w on
 module _ (x : Listing) (piece out : List ℕ) (i w : ℕ) (now : List ℕ) (y : Listing) (S : Sofar x piece out (record { taken = i; written = w }) now y) (long : length now ≡ length out) (lt : i < length piece) (room : 50 ≤ length now - w) (told : Advance) (z : Listing) (A : Advances y (take (length piece - i) (drop i piece)) z told)
     (n : ℕ) (part : List ℕ) (counts : n ≡ length (lines (option_to_list told.entry))) (holds : part ≡ lines (option_to_list told.entry) ++ drop n (take (length now - w) (drop w now))) (small : n ≤ 50) where

@@ -1,5 +1,5 @@
 -- Text that grows in a buffer.
-use Rattle.std.proofs.Common.{◌≡◌, ℕ, ◌+◌, ◌-◌, ◌*◌, ◌/◌, ◌%◌, ◌<◌, ◌≤◌, List, [], ◌∷◌, ◌++◌, length, get_or, take, drop, set, sym, refl, ap, ◌∙◌, subst, append_assoc, arith, length-append, length-set, take-append-drop, length-take-le, drop-drop, take-add}
+use Rattle.std.proofs.Common.{◌≡◌, ℕ, ◌+◌, ◌-◌, ◌/◌, ◌%◌, ◌<◌, ◌≤◌, List, [], ◌∷◌, ◌++◌, length, get_or, take, drop, set, sym, refl, ap, ◌∙◌, subst, append_assoc, arith, length-append, length-set, take-append-drop, length-take-le, drop-drop, take-add}
 use borrow.Rule.Slice.PartMut.{put_mid}
 use Rattle.std.proofs.lemmas.List.{take_more, take_more_set, drop-set-lt, take_at, drop_at, drop-append-le}
 use Rattle.std.proofs.lemmas.Slice.{take-put_mid, drop-put_mid}
@@ -63,10 +63,6 @@ grown_hex out mid at e f i more h l next fits lt eh el G =
     let after = set (set mid e h) (e + 1) l in
     subst (λ n. Grown out at (hex (take (i + 1) more)) after n) (sym next) (grown_same out after at (e + 2) _ _ text (grown_two out mid at e (hex (take i more)) h l (omega arith) G))
 
-pub length_hex : (xs : List ℕ) → length (hex xs) ≡ 2 * length xs
-length_hex [] = refl
-length_hex (x ∷ xs) = omega (arith, length_hex xs)
-
 -- digits that were written down to a place
 pub grown_digits : (out after digits : List ℕ) (at start end : ℕ) → start + length digits ≡ end → end ≡ at + length digits → drop start after ≡ digits ++ drop end out → take start after ≡ take start out → Grown out at digits after end
 grown_digits out after digits at start end starts ends written before =
@@ -78,10 +74,6 @@ grown_digits out after digits at start end starts ends written before =
           ∙ (λ i. (before ∙ ap (λ k. take k out) here) i ++ (ap (take size) written ∙ take_at digits (drop end out) size refl) i);
       rest = ap (λ k. drop k after) (sym starts) ∙ sym (drop-drop size start after) ∙ ap (drop size) written ∙ drop_at digits (drop end out) size refl;
     }
-
--- the text that was written, as a part of the buffer
-pub grown_part : (out more after : List ℕ) (e : ℕ) → Grown out 0 more after e → take (e - 0) after ≡ more
-grown_part out more after e G = let n : e - 0 ≡ e = omega arith in ap (λ k. take k after) n ∙ G.text
 
 -- what lies behind a place of the first bytes of a buffer
 pub front_rest : (n k : ℕ) (out front : List ℕ) → k ≤ length out → front ≡ take k out → n ≤ k → drop n front ++ drop k out ≡ drop n out

@@ -1,8 +1,9 @@
 -- What a pen writes.
-use Rattle.std.specs.Prelude.{List, ℕ}
+use Rattle.std.specs.Prelude.{◌≡◌, ℕ, List}
 use Rattle.listing.specs.Text.{Grown}
 use Rattle.listing.specs.declared.text.Pen.{Pen}
 
--- the pen x wrote `more` behind what it had written, and is y
-abbrev pub Writes : Pen → List ℕ → Pen → Type 0
-Writes x more y = Grown x.out.now x.len more y.out.now y.len
+-- the pen x wrote `more` behind what it had written, in the same buffer, and is y
+pub record Writes (x : Pen) (more : List ℕ) (y : Pen) : Type 0 where
+  pub same_buffer : y.out.ghost_name ≡ x.out.ghost_name
+  pub grown : Grown x.out.now x.len more y.out.now y.len

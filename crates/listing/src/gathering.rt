@@ -13,7 +13,7 @@ pub(crate) fn gather<'a>(numbers: &[u8], frame: &'a mut [u8; 256]) -> Option<&'a
     let size = *len as usize + 1;
     let pairs = pairs.get(..size)?;
     let mut highs = 0;
-    // by places, since no clause says what a loop over `frame.iter_mut().zip(pairs)` leaves in the buffer
+    // tried over `frame.iter_mut().zip(pairs)`: no invariant can name what it leaves in the buffer
     for (i, [high, low]) in pairs.iter().enumerate() {
         highs |= *high;
         frame[i] = *low;

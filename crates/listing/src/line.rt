@@ -3,7 +3,6 @@ ghost use Rattle.std.specs.Prelude.{◌≡◌, ◌+◌, ◌≤◌, ◌++◌, len
 ghost use Rattle.refusal.specs.Output.{Put};
 ghost use Rattle.listing.specs.Lines.{line_of, closing_of};
 
-pub use crate::text::LINE;
 use crate::text::Pen;
 use frame::faults::Fault;
 use frame::packet::Packet;
@@ -13,13 +12,15 @@ use refusal::output::put;
 use refusal::refusals::Refusal;
 use tape::signals::Entry;
 
+// The longest line has so many bytes: a place of ten digits, ` R `, a house record of 18 bytes in hexadecimal, and the newline.
+pub const LINE: usize = 50;
+
 impl Pen<'_> {
     ghost use Rattle.listing.specs.Lines.{record_part, fault_part, verdict_part};
     ghost use Rattle.listing.specs.Pens.{Writes};
 
     fn append_record(&mut self, packet: &Packet<Record>)
         requires { self.old.len + 39 ≤ 50 }
-        ensures same_reference { self.new.out.ghost_name ≡ self.old.out.ghost_name }
         ensures writes { Writes self.old (record_part packet.now) self.new }
         ensures few { self.new.len ≤ self.old.len + 39 }
     {
@@ -33,7 +34,6 @@ impl Pen<'_> {
 
     fn append_fault(&mut self, fault: Fault)
         requires { self.old.len + 39 ≤ 50 }
-        ensures same_reference { self.new.out.ghost_name ≡ self.old.out.ghost_name }
         ensures writes { Writes self.old (fault_part fault) self.new }
         ensures few { self.new.len ≤ self.old.len + 39 }
     {
@@ -45,7 +45,6 @@ impl Pen<'_> {
 
     fn append_verdict(&mut self, verdict: &Result<Packet<Record>, Fault>)
         requires { self.old.len + 39 ≤ 50 }
-        ensures same_reference { self.new.out.ghost_name ≡ self.old.out.ghost_name }
         ensures writes { Writes self.old (verdict_part verdict.now) self.new }
         ensures few { self.new.len ≤ self.old.len + 39 }
     {

@@ -23,6 +23,7 @@ pub struct Fed {
 }
 
 // One step of a listing: how many bytes it took, and the entry that they complete, if any.
+#[derive(Clone, Copy, PartialEq, Eq, Debug)]
 struct Advance {
     taken: usize,
     entry: Option<Entry>,

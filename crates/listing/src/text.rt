@@ -2,10 +2,8 @@
 ghost use Rattle.std.specs.Prelude.{◌≡◌, ◌+◌, ◌*◌, ◌≤◌, [], ◌∷◌, length, decimal};
 ghost use Rattle.listing.specs.Text.{hex};
 
+use crate::line::LINE;
 use itoa::write_digits;
-
-// The longest line has so many bytes: a place of ten digits, ` R `, a house record of 18 bytes in hexadecimal, and the newline.
-pub const LINE: usize = 50;
 
 // The capital hexadecimal digits of every byte, two and two.
 // tried sixteen digits, with two look-ups for each byte: 303 MB/s against 320
@@ -63,8 +61,7 @@ impl<'a> Pen<'a> {
 
     pub(crate) fn append(&mut self, more: &[u8])
         requires { self.old.len + length more.now ≤ 50 }
-        ensures same_reference { self.new.out.ghost_name ≡ self.old.out.ghost_name }
-        ensures writes { Writes self.old more.now self.new }
+        ensures { Writes self.old more.now self.new }
     {
         let end = self.len + more.len();
         let out = &mut *self.out;
@@ -75,7 +72,6 @@ impl<'a> Pen<'a> {
     #[inline(always)]
     pub(crate) fn append_decimal(&mut self, n: u32)
         requires { self.old.len + 10 ≤ 50 }
-        ensures same_reference { self.new.out.ghost_name ≡ self.old.out.ghost_name }
         ensures writes { Writes self.old (decimal n) self.new }
         ensures few { self.new.len ≤ self.old.len + 10 }
     {
@@ -88,13 +84,12 @@ impl<'a> Pen<'a> {
 
     pub(crate) fn append_hex(&mut self, more: &[u8])
         requires { self.old.len + 2 * length more.now ≤ 50 }
-        ensures same_reference { self.new.out.ghost_name ≡ self.old.out.ghost_name }
         ensures writes { Writes self.old (hex more.now) self.new }
         ensures few { self.new.len ≤ self.old.len + 2 * length more.now }
     {
         let at = self.len;
         let out = &mut *self.out;
-        // by places, since std says nothing of what `as_chunks_mut` leaves in the buffer
+        // tried over `as_chunks_mut::<2>()` zipped with the bytes: no clause says what it leaves in the buffer
         for (i, b) in more.iter().enumerate() {
             let [high, low] = hex_pair(*b);
             out[at + 2 * i] = high;

@@ -1,6 +1,6 @@
-use Rattle.std.proofs.Common.{rules}
+use Rattle.std.proofs.Common.{refl, rules}
 use Rattle.listing.proofs.Texts.{grown_once}
 use Rattle.listing.proofs.text.Pen.append.Goals as goal
 
-pub returns-clause-writes : goal.returns-clause-writes
-returns-clause-writes c = grown_once c.args.self.now.out.now c.args.more.now _ c.args.self.now.len (search rules) c.copy_from_slice.ensures.after
+pub returns : goal.returns
+returns c = record { same_buffer = refl; grown = grown_once c.args.self.now.out.now c.args.more.now _ c.args.self.now.len (search rules) c.copy_from_slice.ensures.after }
