@@ -15,20 +15,19 @@ use sensors::climate::ClimateKind;
 use sensors::meter::MeterKind;
 use sensors::rain::RainKind;
 
-// The bytes before a kind's own fields: the map, type, subtype and sequence number.
-const HEAD: usize = 5;
-
-// Puts the house record of a packet of a kind. The kind's own fields come first: where they are refused, nothing is written.
+// Puts the house record of a packet of a kind.
 fn write_as<K: HouseKind>(seq: u8, record: &K::Record, out: &mut [u8]) -> Result<usize, Refusal>
     ensures { Put (laid (K.fields seq «record».now)) out.old result out.new }
 {
-    if out.len() < HEAD {
+    let Some((head, fields)) = out.split_first_chunk_mut::<5>() else {
         return Err(Refusal::OutputTooShort);
-    }
-    let size = K::write_fields(record, &mut out[HEAD..])?;
+    };
+    // The fields first, since they may not fit. A slice pattern in place of the split would leave the buffer's bytes unknown.
+    let size = K::write_fields(record, fields)?;
     let [map0, map1] = K::MAP.to_be_bytes();
-    out[..HEAD].copy_from_slice(&[map0, map1, K::TYPE, K::subtype(record), seq]);
-    Ok(HEAD + size)
+    let sub = K::subtype(record);
+    *head = [map0, map1, K::TYPE, sub, seq];
+    Ok(5 + size)
 }
 
 // Puts the house record of a packet at the front of the buffer.

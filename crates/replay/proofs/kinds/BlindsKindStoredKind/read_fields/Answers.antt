@@ -12,3 +12,6 @@ returns c =
     let t = c.type_inv.fields in
     let bytes : Bytes ys = λ i. omega (arith, t i) in
     kind_read blinds_frames c.args.sub ys bytes (blinds_passes c.args.sub ys bytes (grind (arith, nat_tests)) (grind (arith, nat_tests)) (grind (arith, nat_tests)) (grind (arith, nat_tests))) c.read_data.result (grind (arith, nat_tests))
+
+pub returns-in_err-tail : goal.returns-in_err-tail
+returns-in_err-tail c = grind (arith, nat_tests)
