@@ -1,4 +1,5 @@
 // The records of commanded devices, lawful by their type: each ghost field is the range test of `Rattle.actors.specs.Ranges`.
+// Subtype, command and status are numbers, not enums: each in range is lawful, named or not (docs/DECISIONS.md, 17).
 ghost use Rattle.std.specs.Prelude.{◌≡◌, true};
 ghost use Rattle.actors.specs.Ranges.{blinds_ok, security_ok};
 

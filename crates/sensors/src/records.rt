@@ -1,4 +1,5 @@
 // The sensors' records, lawful by their type: each ghost field is the range test of `Rattle.sensors.specs.Ranges`.
+// Subtype, status and forecast are numbers, not enums: each in range is lawful, named or not (docs/DECISIONS.md, 17).
 ghost use Rattle.std.specs.Prelude.{◌≡◌, true};
 ghost use Rattle.sensors.specs.Ranges.{climate_ok, meter_ok, rain_ok};
 
