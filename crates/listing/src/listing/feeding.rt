@@ -3,7 +3,7 @@ ghost use Rattle.std.specs.Prelude.{◌≡◌, ℕ, ◌<◌, ◌≤◌, List, []
 ghost use Rattle.std.specs.Option.{option_to_list};
 ghost use Rattle.refusal.specs.Output.{Put};
 ghost use Rattle.tape.specs.declared.signals.Signal.{Signal as Heard};
-ghost use Rattle.tape.specs.declared.signals.Entry.{Entry as Told};
+ghost use Rattle.tape.specs.declared.signals.Entry.{Entry};
 ghost use Rattle.tape.specs.Follow.{Follows, model};
 ghost use Rattle.tape.specs.Reading.{Reads};
 ghost use Rattle.listing.specs.Lines.{lines, closing_of};
@@ -47,7 +47,7 @@ impl Listing {
 
     // One signal more: the entry that it completes, if any.
     fn step(&mut self, signal: Signal) -> Option<Entry>
-        ensures { (t : List Heard) (es : List Told) → Follows t es (model self.old.reader) → Stepped t es signal result self.old self.new }
+        ensures { (t : List Heard) (es : List Entry) → Follows t es (model self.old.reader) → Stepped t es signal result self.old self.new }
     {
         match self.reader.take(signal) {
             Ok(entry) => entry,
@@ -109,8 +109,8 @@ impl Listing {
     // Goes on with the listing: takes bytes from the front of the piece, and writes the lines that they complete to the front of
     // the buffer, as long as the buffer has room for a longest line.
     pub fn feed(&mut self, piece: &[u8], out: &mut [u8]) -> Fed
-        ensures fed { (input : List ℕ) (es : List Told) → Listens input es self.old → FedOn input piece.now es out.old result out.new self.new }
-        ensures went { (input : List ℕ) (es : List Told) → Listens input es self.old → WentOn input piece.now es out.old result }
+        ensures fed { (input : List ℕ) (es : List Entry) → Listens input es self.old → FedOn input piece.now es out.old result out.new self.new }
+        ensures went { (input : List ℕ) (es : List Entry) → Listens input es self.old → WentOn input piece.now es out.old result }
         ensures stops { Stops piece.now out.old result }
     {
         // tried in `leap`, where it is used: 235 MB/s against 325, since each step then clears it
@@ -137,7 +137,7 @@ impl Listing {
 
     // Puts the closing line at the front of the buffer: the signals of the tape, and the bytes of its frame begun.
     pub fn close(&self, out: &mut [u8]) -> Result<usize, Refusal>
-        ensures closes { (input : List ℕ) (es : List Told) (q : ℕ) (begun : List ℕ) → Listens input es self.now → Reads 0 (tape_of input) es q begun → Put (closing_of (length (tape_of input)) (length begun)) out.old result out.new }
+        ensures closes { (input : List ℕ) (es : List Entry) (q : ℕ) (begun : List ℕ) → Listens input es self.now → Reads 0 (tape_of input) es q begun → Put (closing_of (length (tape_of input)) (length begun)) out.old result out.new }
         ensures puts { Put (closing_of (model self.now.reader).signals (model self.now.reader).held) out.old result out.new }
     {
         write_closing(self.reader.signals(), self.reader.begun(), out)
