@@ -38,6 +38,7 @@ fn read_as<K: StoredKind>(
 }
 
 // What a map, type, subtype and sequence number say, and the fields behind them.
+// They come one by one, since the proof of an arm did not close over the whole house record.
 fn read_by_type(
     map: u16,
     kind: u8,
