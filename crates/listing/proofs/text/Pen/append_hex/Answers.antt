@@ -1,4 +1,4 @@
-use Rattle.std.proofs.Common.{arith, length-take, take, rules}
+use Rattle.std.proofs.Common.{arith, length-take, take}
 use Rattle.listing.proofs.Texts.{hex_long, hex_more}
 use Rattle.listing.proofs.Pens.{writes_more, writes_same}
 use Rattle.listing.proofs.text.Pen.append_hex.Goals as goal
