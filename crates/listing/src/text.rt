@@ -86,8 +86,15 @@ impl<'a> Pen<'a> {
         ensures writes { Writes self.old (hex more.now) self.new }
         ensures few { self.new.len ≤ self.old.len + 2 * length more.now }
     {
-        for b in more {
-            self.append(&hex_pair(*b));
+        let at = self.len;
+        // as in `append`
+        let out = &mut *self.out;
+        // tried `self.append(&hex_pair(*b))` for each byte: 314 MB/s against 339 in one run
+        for (i, b) in more.iter().enumerate() {
+            let [high, low] = hex_pair(*b);
+            out[at + 2 * i] = high;
+            out[at + 2 * i + 1] = low;
         }
+        self.len = at + 2 * more.len();
     }
 }
