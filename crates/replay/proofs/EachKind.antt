@@ -2,26 +2,21 @@
 use Rattle.std.proofs.Common.{◌≡◌, ℕ, ◌≤◌, true, List, ◌∷◌, length, drop, nat_abs, sym, refl, ap, ◌∙◌, append-nil, arith, drop-cons}
 use Rattle.std.proofs.lemmas.Bool.Decides.{nat_tests}
 use Rattle.frame.proofs.Spelled.{spelled}
+use Rattle.frame.specs.Frames.{packet}
 use Rattle.frame.specs.Fields.{Bytes, at8, at16, at24, at32}
 use Rattle.actors.specs.Ranges.{blinds_ok, security_ok}
 use Rattle.sensors.specs.Ranges.{climate_ok, rain_ok, meter_ok}
-use Rattle.record.proofs.Sorts.{Sort, interface_messages, transmitter_messages, blinds_frames, contacts, climates, rains, meters, Of, model, law}
-use Rattle.house.specs.House.{two, complement, contents, interface_fields, transmitter_fields, blinds_fields, security_fields, climate_fields, rain_fields, meter_fields}
+use Rattle.record.proofs.Sorts.{Sort, interface_messages, transmitter_messages, blinds_frames, contacts, climates, rains, meters, Of, model, law, inject}
+use Rattle.house.specs.House.{two, complement, fields, behind}
 use Rattle.replay.specs.Back.{uncomplement, lawful_by}
 use Rattle.replay.proofs.Data.{data_of}
 use Rattle.replay.proofs.Numbers.{two_at, three_at, four_at, at_two, at_three, at_four, complement_below, complement_at, at_complement}
 
--- the bytes of the fields behind type, subtype and sequence number
-abbrev pub behind : (k : Sort) → Of k → List ℕ
-behind interface_messages r = contents (drop 1 (interface_fields 0 r))
-behind transmitter_messages r = contents (drop 1 (transmitter_fields 0 r))
-behind blinds_frames r = contents (drop 1 (blinds_fields 0 r))
-behind contacts r = contents (drop 1 (security_fields 0 r))
-behind climates r = contents (drop 1 (climate_fields 0 r))
-behind rains r = contents (drop 1 (rain_fields 0 r))
-behind meters r = contents (drop 1 (meter_fields 0 r))
+-- the bytes of a record's fields behind type, subtype and sequence number
+abbrev pub own : (k : Sort) → Of k → List ℕ
+own k r = behind (fields (packet 0 (inject k r)))
 
-pub kind_lawful : (k : Sort) (r : Of k) → lawful_by (model k).number ((model k).sub_of r) (behind k r) ≡ true
+pub kind_lawful : (k : Sort) (r : Of k) → lawful_by (model k).number ((model k).sub_of r) (own k r) ≡ true
 kind_lawful interface_messages r = let ok = r.ok in grind (arith, nat_tests, append-nil r.messages)
 kind_lawful transmitter_messages r = r.ok
 kind_lawful blinds_frames r =
@@ -52,7 +47,7 @@ kind_lawful meters r =
     (λ i. meter_ok r.subtype (id i) (counter i) r.strength) ∙ ok
 
 -- those of a record's fields are its own
-pub own_data : (k : Sort) (r : Of k) → data_of k (behind k r) ≡ (model k).bytes r
+pub own_data : (k : Sort) (r : Of k) → data_of k (own k r) ≡ (model k).bytes r
 own_data interface_messages r = append-nil (r.command ∷ r.messages)
 own_data transmitter_messages r = refl
 own_data blinds_frames r = let ok = r.ok in grind (arith, nat_tests)
@@ -61,10 +56,10 @@ own_data climates r = let ok = r.ok in grind (arith, nat_tests)
 own_data rains r = let ok = r.ok in grind (arith, nat_tests)
 own_data meters r = let ok = r.ok in grind (arith, nat_tests)
 
-pub kind_one : (k : Sort) (r s : Of k) → (model k).sub_of r ≡ (model k).sub_of s → behind k r ≡ behind k s → r ≡ s
+pub kind_one : (k : Sort) (r s : Of k) → (model k).sub_of r ≡ (model k).sub_of s → own k r ≡ own k s → r ≡ s
 kind_one k r s u e = (law k).one r s u (sym (own_data k r) ∙ ap (data_of k) e ∙ own_data k s)
 
-pub kind_onto : (k : Sort) (s : ℕ) (ys : List ℕ) → Bytes ys → lawful_by (model k).number s ys ≡ true → (r : Of k) × ((model k).sub_of r ≡ s) × (behind k r ≡ ys)
+pub kind_onto : (k : Sort) (s : ℕ) (ys : List ℕ) → Bytes ys → lawful_by (model k).number s ys ≡ true → (r : Of k) × ((model k).sub_of r ≡ s) × (own k r ≡ ys)
 kind_onto interface_messages s ys b h =
     let n : length ys ≡ 10 = grind (arith, nat_tests) in
     let e : ys ≡ at8 ys 0 ∷ drop 1 ys = drop-cons ys 0 0 (omega arith) in
