@@ -63,18 +63,18 @@ pub kind_onto : (k : Sort) (s : ℕ) (ys : List ℕ) → Bytes ys → lawful_by 
 kind_onto interface_messages s ys b h =
     let n : length ys ≡ 10 = grind (arith, nat_tests) in
     let e : ys ≡ at8 ys 0 ∷ drop 1 ys = drop-cons ys 0 0 (omega arith) in
-    (record { subtype = s; command = at8 ys 0; messages = drop 1 ys; ok = grind (arith, nat_tests) }, refl, append-nil _ ∙ sym e)
+    (record { subtype = s; command = at8 ys 0; messages = drop 1 ys; ok = grind (arith, nat_tests) }, refl {a = s}, append-nil _ ∙ sym e)
 kind_onto transmitter_messages s ys b h =
     let e = spelled 1 0 ys (grind (arith, nat_tests)) in
-    (record { subtype = s; message = at8 ys 0; ok = grind (arith, nat_tests) }, refl, sym e)
+    (record { subtype = s; message = at8 ys 0; ok = grind (arith, nat_tests) }, refl {a = s}, sym e)
 kind_onto blinds_frames s ys b h =
     let e = spelled 8 0 ys (grind (arith, nat_tests)) in
     let i = four_at (at8 ys 0) (at8 ys 1) (at8 ys 2) (at8 ys 3) (b 0) (b 1) (b 2) (b 3) in
-    (record { subtype = s; id = at32 ys 0; unit = at8 ys 4; command = at8 ys 5; battery = at8 ys 6; strength = at8 ys 7; ok = grind (arith, nat_tests) }, refl, cc)
+    (record { subtype = s; id = at32 ys 0; unit = at8 ys 4; command = at8 ys 5; battery = at8 ys 6; strength = at8 ys 7; ok = grind (arith, nat_tests) }, refl {a = s}, cc)
 kind_onto contacts s ys b h =
     let e = spelled 7 0 ys (grind (arith, nat_tests)) in
     let i = four_at (at8 ys 0) (at8 ys 1) (at8 ys 2) (at8 ys 3) (b 0) (b 1) (b 2) (b 3) in
-    (record { subtype = s; id = at32 ys 0; status = at8 ys 4; battery = at8 ys 5; strength = at8 ys 6; ok = grind (arith, nat_tests) }, refl, cc)
+    (record { subtype = s; id = at32 ys 0; status = at8 ys 4; battery = at8 ys 5; strength = at8 ys 6; ok = grind (arith, nat_tests) }, refl {a = s}, cc)
 kind_onto climates s ys b h =
     let e = spelled 13 0 ys (grind (arith, nat_tests)) in
     let i = four_at (at8 ys 0) (at8 ys 1) (at8 ys 2) (at8 ys 3) (b 0) (b 1) (b 2) (b 3) in
@@ -86,9 +86,9 @@ kind_onto rains s ys b h =
     let i = four_at (at8 ys 0) (at8 ys 1) (at8 ys 2) (at8 ys 3) (b 0) (b 1) (b 2) (b 3) in
     let t = two_at (at8 ys 4) (at8 ys 5) (b 4) (b 5) in
     let p = three_at (at8 ys 6) (at8 ys 7) (at8 ys 8) (b 6) (b 7) (b 8) in
-    (record { subtype = s; id = at32 ys 0; rate = at16 ys 4; total = at24 ys 6; battery = at8 ys 9; strength = at8 ys 10; ok = grind (arith, nat_tests) }, refl, cc)
+    (record { subtype = s; id = at32 ys 0; rate = at16 ys 4; total = at24 ys 6; battery = at8 ys 9; strength = at8 ys 10; ok = grind (arith, nat_tests) }, refl {a = s}, cc)
 kind_onto meters s ys b h =
     let e = spelled 9 0 ys (grind (arith, nat_tests)) in
     let i = four_at (at8 ys 0) (at8 ys 1) (at8 ys 2) (at8 ys 3) (b 0) (b 1) (b 2) (b 3) in
     let t = four_at (at8 ys 4) (at8 ys 5) (at8 ys 6) (at8 ys 7) (b 4) (b 5) (b 6) (b 7) in
-    (record { subtype = s; id = at32 ys 0; counter = at32 ys 4; strength = at8 ys 8; ok = grind (arith, nat_tests) }, refl, cc)
+    (record { subtype = s; id = at32 ys 0; counter = at32 ys 4; strength = at8 ys 8; ok = grind (arith, nat_tests) }, refl {a = s}, cc)

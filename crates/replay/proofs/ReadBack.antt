@@ -5,7 +5,7 @@ use Rattle.frame.specs.Fields.{Bytes}
 use Rattle.frame.specs.Model.{Model, checked}
 use Rattle.record.proofs.Sorts.{Sort, Of, model, law}
 use Rattle.replay.specs.Back.{given, as_fields, lawful_by}
-use Rattle.replay.proofs.Data.{data_of}
+use Rattle.replay.proofs.Data.{data_of, fits, kind_passes}
 use Rattle.replay.proofs.EachKind.{own, own_data, kind_onto}
 
 module _ {R : Type 0} (m : Model R) (told : R → List ℕ) (s : ℕ) (ds ys : List ℕ) where
@@ -25,5 +25,5 @@ module _ (k : Sort) (s : ℕ) (ys : List ℕ) (b : Bytes ys) where
       let same : r ≡ o.0 = (law k).one r o.0 (u ∙ sym o.1) (e ∙ ap (data_of k) (sym o.2) ∙ own_data k o.0) in
       ap (own k) same ∙ o.2
 
-  pub kind_read : lawful_by (model k).number s ys ≡ is_ok (checked (model k) s (data_of k ys)) → (t : Result (Of k) Refusal) → as_fields (model k).sub_of (model k).bytes t ≡ given (is_ok (checked (model k) s (data_of k ys))) (s ∷ data_of k ys) → as_fields (model k).sub_of (own k) t ≡ given (lawful_by (model k).number s ys) (s ∷ ys)
-  kind_read l t e = of_data (model k) (own k) s (data_of k ys) ys _ _ t e l back
+  pub kind_read : fits k ys ≡ true → (t : Result (Of k) Refusal) → as_fields (model k).sub_of (model k).bytes t ≡ given (is_ok (checked (model k) s (data_of k ys))) (s ∷ data_of k ys) → as_fields (model k).sub_of (own k) t ≡ given (lawful_by (model k).number s ys) (s ∷ ys)
+  kind_read f t e = of_data (model k) (own k) s (data_of k ys) ys _ _ t e (kind_passes k s ys b f) back

@@ -1,5 +1,5 @@
 -- Which bytes are a house record, and what is read of them (docs/HOUSE.md).
-use Rattle.std.specs.Prelude.{◌≡◌, ℕ, ◌+◌, ◌-◌, Bool, true, false, cond, ◌&&◌, List, ◌∷◌, ◌++◌, length, drop, ℤ, pos, negsuc, Some, None, Option, Ok, Err, Result, ◌==◌, nat_le, nat_lt}
+use Rattle.std.specs.Prelude.{◌≡◌, ℕ, ◌+◌, ◌-◌, Bool, false, cond, ◌&&◌, List, ◌∷◌, ◌++◌, length, drop, ℤ, pos, negsuc, Some, None, Option, Ok, Err, Result, ◌==◌, nat_le, nat_lt}
 use Rattle.frame.specs.Fields.{at8, at16, at24, at32}
 use Rattle.frame.specs.declared.packet.Packet.{Packet}
 use Rattle.refusal.specs.Output.{Put}
