@@ -21,7 +21,7 @@ use sensors::climate::ClimateKind;
 use sensors::meter::MeterKind;
 use sensors::rain::RainKind;
 
-// A stored house record, cut into map, type, subtype and sequence number, and the fields behind them.
+// A house record in its parts: map, type, subtype and sequence number, and the fields behind them.
 #[derive(Drop)]
 struct Stored<'a> {
     map: u16,
@@ -32,7 +32,7 @@ struct Stored<'a> {
 }
 
 impl<'a> Stored<'a> {
-    // What it is for a kind, if it has the kind's type.
+    // Its packet, where its type is that of the kind.
     fn read_as<K: StoredKind>(&self) -> Result<Packet<Record>, Refusal>
         ensures { housed result ≡ given (self.now.map == K.MAP && K.lawful self.now.sub self.now.fields.now) (headed self.now.map K.TYPE self.now.sub self.now.seq self.now.fields.now) }
     {
@@ -46,7 +46,7 @@ impl<'a> Stored<'a> {
         })
     }
 
-    // What it is, by its type.
+    // Its packet, read by the kind that has its type.
     fn read(&self) -> Result<Packet<Record>, Refusal>
         ensures { housed result ≡ given (is_map (map_by self.now.kind) self.now.map && lawful_by self.now.kind self.now.sub self.now.fields.now) (headed self.now.map self.now.kind self.now.sub self.now.seq self.now.fields.now) }
     {
