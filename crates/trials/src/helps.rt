@@ -58,21 +58,23 @@ pub fn changed(heap: Global, base: &[u8], at: usize, patch: &[u8]) -> Result<Vec
     Ok(all)
 }
 
-// What can be written into a buffer.
-pub trait Writes {
-    fn write(&self, out: &mut [u8]) -> Result<usize, Refusal>;
+// A buffer of so many places, before anything is written into it.
+pub fn unwritten(heap: Global, room: usize) -> Result<Vec<u8>, Fail> {
+    Ok(vec![in heap; OLD; room]?)
 }
 
-fn written_in<W: Writes>(
+fn written_in<W: Fn(&mut [u8]) -> Result<usize, Refusal>>(
     rt: &impl Abort,
     heap: Global,
-    what: &W,
+    write: &W,
     text: &[u8],
     room: usize,
-) -> Result<(), Fail> {
-    let old = vec![in heap; OLD; room]?;
-    let mut out = old.clone()?;
-    match what.write(&mut out) {
+) -> Result<(), Fail>
+    requires { W.IsAlwaysCallable write.now }
+{
+    let old = unwritten(heap, room)?;
+    let mut out = unwritten(heap, room)?;
+    match write(&mut out) {
         Ok(size) => {
             assert_eq!(rt; size, text.len(), "{text:?}, a buffer of {room}");
             assert_eq!(rt;
@@ -93,32 +95,24 @@ fn written_in<W: Writes>(
 
 // Into every buffer from none to three places more than are needed: written where it fits, refused with 16 where it does not, and
 // nothing else changed.
-pub fn written<W: Writes>(
+pub fn written<W: Fn(&mut [u8]) -> Result<usize, Refusal>>(
     rt: &impl Abort,
     heap: Global,
-    what: &W,
+    write: W,
     text: &[u8],
-) -> Result<(), Fail> {
+) -> Result<(), Fail>
+    requires { W.IsAlwaysCallable write }
+{
     for room in 0..text.len().saturating_add(4) {
-        written_in(rt, heap, what, text, room)?;
+        written_in(rt, heap, &write, text, room)?;
     }
     Ok(())
 }
 
-// The cause and offset of a fault, or 0 and 0. What is read without one is written back to its own bytes.
-pub fn told<W: Writes + Drop>(
-    rt: &impl Abort,
-    heap: Global,
-    verdict: Result<W, Fault>,
-    given: &[u8],
-) -> Result<(u8, u8), Fail> {
+// The cause and offset of a fault. A row says 0 0 where there is no fault: the rules number causes from 1.
+pub fn told<T>(verdict: &Result<T, Fault>) -> (u8, u8) {
     match verdict {
-        Err(fault) => Ok((fault.cause(), fault.offset())),
-        Ok(packet) => {
-            let len = given.first().ok_or("no byte")?;
-            let frame = given.get(0..usize::from(*len) + 1).ok_or("cut")?;
-            written(rt, heap, &packet, frame)?;
-            Ok((0, 0))
-        }
+        Ok(_) => (0, 0),
+        Err(fault) => (fault.cause(), fault.offset()),
     }
 }
