@@ -8,12 +8,11 @@ use std::test::Fail;
 // What no written byte is known to be, so that it shows which bytes of a buffer are as they were.
 const OLD: u8 = 0xA5;
 
-fn digit(letter: u8) -> Option<u8> {
-    match letter {
-        b'0'..=b'9' => Some(letter - b'0'),
-        b'A'..=b'F' => Some(letter - b'A' + 10),
-        _ => None,
-    }
+// Small letters are no digits.
+fn digit(letter: u8) -> Option<u32> {
+    char::from(letter)
+        .to_digit(16)
+        .filter(|_| !letter.is_ascii_lowercase())
 }
 
 // The signal numbers of a text: a byte is two hexadecimal digits, `|` is 256 and `#` is 65,535. Spaces mean nothing.
@@ -30,7 +29,7 @@ pub fn numbers(rt: &impl Abort, heap: Global, text: &str) -> Result<Vec<u16>, Fa
                 match high {
                     None => high = Some(low),
                     Some(first) => {
-                        all.push(u16::from(first.wrapping_mul(16).wrapping_add(low)))?;
+                        all.push(u16::try_from(first.wrapping_mul(16).wrapping_add(low))?)?;
                         high = None;
                     }
                 }
@@ -45,7 +44,7 @@ pub fn numbers(rt: &impl Abort, heap: Global, text: &str) -> Result<Vec<u16>, Fa
 pub fn bytes(rt: &impl Abort, heap: Global, text: &str) -> Result<Vec<u8>, Fail> {
     numbers(rt, heap, text)?
         .iter()
-        .map(|&number| -> Result<u8, Fail> { Ok(u8::try_from(number)?) })
+        .map(|&number| u8::try_from(number).map_err(Fail::from))
         .try_collect(heap)
 }
 
