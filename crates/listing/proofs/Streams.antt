@@ -1,5 +1,5 @@
 -- Streams that grow by a byte, and what a listing of them becomes.
-use Rattle.std.proofs.Common.{◌≡◌, ℕ, zero, suc, ◌+◌, ◌-◌, ◌*◌, ◌/◌, ◌<◌, ◌≤◌, true, false, cond, ltb, List, [], ◌∷◌, ◌++◌, length, get_or, take, drop, Some, None, Option, sym, refl, ap, ◌∙◌, subst, append_assoc, append-nil, arith, length-append, length-drop, take-append-drop, length-take-le, take_all, drop-drop, take-add, take-take, le-ltb, lt-ltb, eq-eqb, ne_eqb}
+use Rattle.std.proofs.Common.{◌≡◌, ℕ, zero, suc, ◌+◌, ◌-◌, ◌*◌, ◌/◌, ◌<◌, ◌≤◌, true, false, cond, ltb, List, [], ◌∷◌, ◌++◌, length, get_or, take, drop, Some, None, Option, sym, refl, ap, ◌∙◌, subst, append_assoc, append-nil, arith, length-append, length-drop, take-append-drop, length-take, length-take-le, take_all, drop-drop, take-add, take-take, le-ltb, lt-ltb, eq-eqb, ne_eqb}
 use Rattle.std.specs.Option.{option_to_list}
 use mathlib.Core.List.{append_cancel_left}
 use native.Mathlib.Decide.{dec_lt}
@@ -21,7 +21,7 @@ use Rattle.listing.specs.declared.listing.Fed.{Fed}
 use Rattle.listing.specs.declared.listing.Advance.{Advance}
 use Rattle.listing.specs.Lines.{lines, line_of}
 use Rattle.listing.specs.Listing.{signals, odd, tape_of, Listens, FedOn, WentOn}
-use Rattle.listing.specs.Steps.{Stepped, Hears, Waits, Advances}
+use Rattle.listing.specs.Steps.{Stepped, Hears, Waits, Advances, FedOnce}
 
 -- a byte that ends one
 second_signals : (input : List ℕ) (h b : ℕ) → odd input ≡ Some h → signals (input ++ b ∷ []) ≡ signals input ++ signal_of (h * 256 + b) ∷ []
@@ -154,11 +154,11 @@ hears_number x z bytes s r ends step input es L =
 pub ends_second : (x : Listing) (h b : ℕ) → x.high ≡ Some h → Ends x (b ∷ []) (signal_of (h * 256 + b))
 ends_second x h b some input e = (second_signals input h b (e ∙ some), second_odd input h b (e ∙ some))
 
-pub ends_pair : (x : Listing) (h l : ℕ) → x.high ≡ None → Ends x (h ∷ l ∷ []) (signal_of (h * 256 + l))
+ends_pair : (x : Listing) (h l : ℕ) → x.high ≡ None → Ends x (h ∷ l ∷ []) (signal_of (h * 256 + l))
 ends_pair x h l none input e = (signals_append input (h ∷ l ∷ []) (e ∙ none), odd_append input (h ∷ l ∷ []) (e ∙ none))
 
 -- no signal, no entry
-pub waits_still : (x : Listing) (bytes : List ℕ) → ((input : List ℕ) → odd input ≡ x.high → (i : ℕ) → i < length bytes → signals (input ++ take i bytes) ≡ signals input) → Waits x bytes
+waits_still : (x : Listing) (bytes : List ℕ) → ((input : List ℕ) → odd input ≡ x.high → (i : ℕ) → i < length bytes → signals (input ++ take i bytes) ≡ signals input) → Waits x bytes
 waits_still x bytes still input es L i lt fs q r R =
     let here : tape_of (input ++ take i bytes) ≡ tape_of input = ap (take limit) (still input (sym L.waits) i lt) in
     let same = (reads_one (subst (λ t. Reads 0 t (es ++ fs) q r) here R) L.follows.reads).entries in
@@ -219,19 +219,16 @@ pub record Sofar (x : Listing) (piece out : List ℕ) (fed : Fed) (now : List �
   pub went : (input : List ℕ) (es : List Entry) → Listens input es x → WentOn input piece es out fed
 
 -- one step more, from the byte i on, and the line of its entry, from the place w on
-module _ (x : Listing) (piece out : List ℕ) (i w : ℕ) (now : List ℕ) (y : Listing) (S : Sofar x piece out (record { taken = i; written = w }) now y) (long : length now ≡ length out) (lt : i < length piece) (room : 50 ≤ length now - w) (told : Advance) (z : Listing) (A : Advances y (take (length piece - i) (drop i piece)) z told)
+module _ (x : Listing) (piece out : List ℕ) (i w : ℕ) (now : List ℕ) (y : Listing) (S : Sofar x piece out (record { taken = i; written = w }) now y) (long : length now ≡ length out) (rest : List ℕ) (rest_is : rest ≡ drop i piece) (room : 50 ≤ length now - w) (told : Advance) (z : Listing) (A : Advances y rest z told)
     (n : ℕ) (part : List ℕ) (counts : n ≡ length (lines (option_to_list told.entry))) (holds : part ≡ lines (option_to_list told.entry) ++ drop n (take (length now - w) (drop w now))) (small : n ≤ 50) where
-  rest : take (length piece - i) (drop i piece) ≡ drop i piece
-  rest = take_all (length piece - i) (drop i piece) (omega (arith, length-drop i piece))
-
-  rest_long : length (take (length piece - i) (drop i piece)) ≡ length piece - i
-  rest_long = ap length rest ∙ length-drop i piece
+  rest_long : length rest ≡ length piece - i
+  rest_long = ap length rest_is ∙ length-drop i piece
 
   -- the stream with the first k bytes of the step
-  stream : (input : List ℕ) (k : ℕ) → k ≤ told.taken → (input ++ take i piece) ++ take k (take told.taken (take (length piece - i) (drop i piece))) ≡ input ++ take (i + k) piece
+  stream : (input : List ℕ) (k : ℕ) → k ≤ told.taken → (input ++ take i piece) ++ take k (take told.taken rest) ≡ input ++ take (i + k) piece
   stream input k h =
       append_assoc input (take i piece) _
-      ∙ ap (λ l. input ++ l) (ap (λ l. take i piece ++ l) (take-take k told.taken _ h ∙ ap (take k) rest) ∙ sym (take-add i k piece))
+      ∙ ap (λ l. input ++ l) (ap (λ l. take i piece ++ l) (take-take k told.taken _ h ∙ ap (take k) rest_is) ∙ sym (take-add i k piece))
 
   goes_more : (input : List ℕ) (es : List Entry) → Listens input es x → FedOn input piece es out (record { taken = i + told.taken; written = w + n }) (put_mid w (length now - w) now part) z
   goes_more input es L =
@@ -239,11 +236,11 @@ module _ (x : Listing) (piece out : List ℕ) (i w : ℕ) (now : List ℕ) (y : 
       let came = option_to_list told.entry in
       let H = A.hears (input ++ take i piece) (es ++ F.more) F.listens in
       let all = lines_append F.more came in
-      let whole : (input ++ take i piece) ++ take told.taken (take (length piece - i) (drop i piece)) ≡ input ++ take (i + told.taken) piece =
+      let whole : (input ++ take i piece) ++ take told.taken rest ≡ input ++ take (i + told.taken) piece =
       ap (λ l. (input ++ take i piece) ++ l) (sym (take-take told.taken told.taken _ (omega arith))) ∙ stream input told.taken (omega arith) in
       record {
         more = F.more ++ came;
-        listens = subst (λ l. Listens l (es ++ (F.more ++ came)) z) whole (subst (λ l. Listens ((input ++ take i piece) ++ take told.taken (take (length piece - i) (drop i piece))) l z) (append_assoc es F.more came) H);
+        listens = subst (λ l. Listens l (es ++ (F.more ++ came)) z) whole (subst (λ l. Listens ((input ++ take i piece) ++ take told.taken rest) l z) (append_assoc es F.more came) H);
         counts = omega (arith, F.counts, counts, ap length all, length-append (lines F.more) (lines came));
         holds = behind out now part (lines F.more) (lines came) w n F.counts F.holds counts holds ∙ ap (λ l. l ++ drop (w + n) out) (sym all);
       }
@@ -253,7 +250,7 @@ module _ (x : Listing) (piece out : List ℕ) (i w : ℕ) (now : List ℕ) (y : 
   went_rest input es L k lk fs q r R =
       let F = S.goes input es L in
       let here = input ++ take i piece in
-      let bytes = take told.taken (take (length piece - i) (drop i piece)) in
+      let bytes = take told.taken rest in
       let more = tape_grows here (take k bytes) in
       let R' : Reads 0 (tape_of (here ++ take k bytes)) (es ++ fs) q r = subst (λ l. Reads 0 (tape_of l) (es ++ fs) q r) (sym (stream input k (omega arith))) R in
       let kept = entries_stay (tape_of here) more.0 (es ++ F.more) (es ++ fs) _ q _ r (tape_bytes here) more.1 F.listens.follows.reads (subst (λ t. Reads 0 t (es ++ fs) q r) more.2 R') in
@@ -270,7 +267,7 @@ module _ (x : Listing) (piece out : List ℕ) (i w : ℕ) (now : List ℕ) (y : 
             went_rest input es L (j - i) (omega arith) fs q r (subst (λ m. Reads 0 (tape_of (input ++ take m piece)) (es ++ fs) q r) e R)
       ]
 
-  pub sofar_more : Sofar x piece out (record { taken = i + told.taken; written = w + n }) (put_mid w (length now - w) now part) z
+  sofar_more : Sofar x piece out (record { taken = i + told.taken; written = w + n }) (put_mid w (length now - w) now part) z
   sofar_more = record {
     within = omega (arith, rest_long, A.within);
     fits = omega (arith, S.fits, long);
@@ -278,3 +275,52 @@ module _ (x : Listing) (piece out : List ℕ) (i w : ℕ) (now : List ℕ) (y : 
     goes = goes_more;
     went = went_more;
   }
+
+-- what is left of a piece, of which the rest was fed
+pub record Walked (x : Listing) (piece out rest : List ℕ) (written : ℕ) (now : List ℕ) (y : Listing) : Type 0 where
+  pub within : length rest ≤ length piece
+  pub rest_is : rest ≡ drop (length piece - length rest) piece
+  pub sofar : Sofar x piece out (record { taken = length piece - length rest; written = written }) now y
+
+sofar_none : (x : Listing) (piece out : List ℕ) (k : ℕ) → k ≡ 0 → Sofar x piece out (record { taken = k; written = 0 }) out x
+sofar_none x piece out k e = subst (λ k. Sofar x piece out (record { taken = k; written = 0 }) out x) (sym e) (record {
+  within = omega arith;
+  fits = omega arith;
+  slow = omega arith;
+  goes = λ input es L. record {
+    more = [];
+    listens = subst (λ l. Listens l (es ++ []) x) (sym (append-nil input)) (subst (λ l. Listens input l x) (sym (append-nil es)) L);
+    counts = refl;
+    holds = refl;
+  };
+  went = λ input es L j lt. absurd (omega arith);
+})
+
+pub walked_none : (x : Listing) (piece out : List ℕ) → Walked x piece out piece 0 out x
+walked_none x piece out =
+    let none : length piece - length piece ≡ 0 = omega arith in
+    record {
+      within = omega arith;
+      rest_is = ap (λ k. drop k piece) (sym none);
+      sofar = sofar_none x piece out _ none;
+    }
+
+-- nothing more was written
+pub put_same : (now : List ℕ) (w : ℕ) (part : List ℕ) → part ≡ take (length now - w) (drop w now) → put_mid w (length now - w) now part ≡ now
+put_same now w part e = ap (λ l. take w now ++ (l ++ drop (length now - w) (drop w now))) e ∙ ap (λ l. take w now ++ l) (take-append-drop (length now - w) (drop w now)) ∙ take-append-drop w now
+
+pub walked_more : (x : Listing) (piece out rest : List ℕ) (w : ℕ) (now : List ℕ) (y : Listing) → Walked x piece out rest w now y → length now ≡ length out → (z : Listing) (part : List ℕ) (told : Fed) → FedOnce y rest (take (length now - w) (drop w now)) z part told → Walked x piece out (take (length rest - told.taken) (drop told.taken rest)) (w + told.written) (put_mid w (length now - w) now part) z
+walked_more x piece out rest w now y W long z part told F =
+    let A = F.advances in
+    let room : 50 ≤ length now - w = omega (arith, F.room, length-take (length now - w) (drop w now)) in
+    let i = length piece - length rest in
+    let S = sofar_more x piece out i w now y W.sofar long rest W.rest_is room (record { taken = told.taken; entry = F.entry }) z A told.written part F.counts F.holds F.few in
+    let left = take (length rest - told.taken) (drop told.taken rest) in
+    let all : left ≡ drop told.taken rest = take_all (length rest - told.taken) (drop told.taken rest) (omega (arith, length-drop told.taken rest)) in
+    let size : length left ≡ length rest - told.taken = ap length all ∙ length-drop told.taken rest in
+    let next : length piece - length left ≡ i + told.taken = omega (arith, size, W.within, A.within) in
+    record {
+      within = omega (arith, size, W.within);
+      rest_is = all ∙ ap (drop told.taken) W.rest_is ∙ drop-drop told.taken i piece ∙ ap (λ k. drop k piece) (sym next);
+      sofar = subst (λ k. Sofar x piece out (record { taken = k; written = w + told.written }) (put_mid w (length now - w) now part) z) (sym next) S;
+    }

@@ -1,4 +1,4 @@
--- What a pen writes.
+-- What a pen writes: for the calls that no other crate sees.
 use Rattle.std.specs.Prelude.{◌≡◌, ℕ, List}
 use Rattle.listing.specs.Text.{Grown}
 use Rattle.listing.specs.declared.text.Pen.{Pen}

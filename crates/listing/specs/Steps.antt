@@ -1,5 +1,5 @@
 -- What one signal, some bytes and one step do to a listing: for the calls that no other crate sees.
-use Rattle.std.specs.Prelude.{◌≡◌, ℕ, ◌<◌, ◌≤◌, true, cond, List, [], ◌++◌, length, take, Option}
+use Rattle.std.specs.Prelude.{◌≡◌, ℕ, ◌<◌, ◌≤◌, true, cond, List, [], ◌++◌, length, take, drop, Option}
 use Rattle.std.specs.Option.{option_to_list}
 use Rattle.tape.specs.declared.signals.Signal.{Signal}
 use Rattle.tape.specs.declared.signals.Entry.{Entry}
@@ -7,6 +7,8 @@ use Rattle.tape.specs.Follow.{Follows, heard, full, model}
 use Rattle.tape.specs.Reading.{Reads}
 use Rattle.listing.specs.declared.listing.Listing.{Listing}
 use Rattle.listing.specs.declared.listing.Advance.{Advance}
+use Rattle.listing.specs.declared.listing.Fed.{Fed}
+use Rattle.listing.specs.Lines.{lines}
 use Rattle.listing.specs.Listing.{tape_of, Listens}
 
 -- the signal s behind the tape t: it completes the entry r, if any
@@ -31,3 +33,12 @@ pub record Advances (x : Listing) (piece : List ℕ) (y : Listing) (told : Advan
   pub moves : 0 < told.taken
   pub hears : Hears x (take told.taken piece) (option_to_list told.entry) y
   pub waits : Waits x (take told.taken piece)
+
+-- such a step, after which the line of the entry, if any, stands at the front of `out`, which has room for a longest line
+pub record FedOnce (x : Listing) (piece out : List ℕ) (y : Listing) (after : List ℕ) (told : Fed) : Type 0 where
+  pub room : 50 ≤ length out
+  pub entry : Option Entry
+  pub advances : Advances x piece y (record { taken = told.taken; entry = entry })
+  pub counts : told.written ≡ length (lines (option_to_list entry))
+  pub holds : after ≡ lines (option_to_list entry) ++ drop told.written out
+  pub few : told.written ≤ 50

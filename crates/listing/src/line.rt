@@ -15,14 +15,17 @@ use tape::signals::Entry;
 // The longest line has so many bytes: a place of ten digits, ` R `, a house record of 18 bytes in hexadecimal, and the newline.
 pub const LINE: usize = 50;
 
+// The longest verdict: ` R ` and the house record.
+const VERDICT: usize = 39;
+
 impl Pen<'_> {
     ghost use Rattle.listing.specs.Lines.{record_part, fault_part, verdict_part};
     ghost use Rattle.listing.specs.Pens.{Writes};
 
     fn append_record(&mut self, packet: &Packet<Record>)
-        requires { self.old.len + 39 ≤ 50 }
+        requires { self.old.len + VERDICT ≤ LINE }
         ensures writes { Writes self.old (record_part packet.now) self.new }
-        ensures few { self.new.len ≤ self.old.len + 39 }
+        ensures few { self.new.len ≤ self.old.len + VERDICT }
     {
         self.append(b" R ");
         let mut house = [0; 18];
@@ -33,9 +36,9 @@ impl Pen<'_> {
     }
 
     fn append_fault(&mut self, fault: Fault)
-        requires { self.old.len + 39 ≤ 50 }
+        requires { self.old.len + VERDICT ≤ LINE }
         ensures writes { Writes self.old (fault_part fault) self.new }
-        ensures few { self.new.len ≤ self.old.len + 39 }
+        ensures few { self.new.len ≤ self.old.len + VERDICT }
     {
         self.append(b" F ");
         self.append_decimal(fault.cause() as u32);
@@ -44,9 +47,9 @@ impl Pen<'_> {
     }
 
     fn append_verdict(&mut self, verdict: &Result<Packet<Record>, Fault>)
-        requires { self.old.len + 39 ≤ 50 }
+        requires { self.old.len + VERDICT ≤ LINE }
         ensures writes { Writes self.old (verdict_part verdict.now) self.new }
-        ensures few { self.new.len ≤ self.old.len + 39 }
+        ensures few { self.new.len ≤ self.old.len + VERDICT }
     {
         match verdict {
             Ok(packet) => self.append_record(packet),
@@ -59,7 +62,7 @@ impl Pen<'_> {
 pub(crate) fn compose(entry: &Entry, out: &mut [u8; LINE]) -> usize
     ensures counts { result ≡ length (line_of entry.now) }
     ensures holds { out.new ≡ line_of entry.now ++ drop result out.old }
-    ensures few { result ≤ 50 }
+    ensures few { result ≤ LINE }
 {
     let mut pen = Pen::new(out);
     pen.append_decimal(entry.place);

@@ -60,10 +60,11 @@ impl<'a> Pen<'a> {
     }
 
     pub(crate) fn append(&mut self, more: &[u8])
-        requires { self.old.len + length more.now ≤ 50 }
+        requires { self.old.len + length more.now ≤ LINE }
         ensures { Writes self.old more.now self.new }
     {
         let end = self.len + more.len();
+        // tried `self.out[..]` at once: the borrow checker takes no part of what lies behind a field
         let out = &mut *self.out;
         out[self.len..end].copy_from_slice(more);
         self.len = end;
@@ -71,30 +72,23 @@ impl<'a> Pen<'a> {
 
     #[inline(always)]
     pub(crate) fn append_decimal(&mut self, n: u32)
-        requires { self.old.len + 10 ≤ 50 }
+        requires { self.old.len + 10 ≤ LINE }
         ensures writes { Writes self.old (decimal n) self.new }
         ensures few { self.new.len ≤ self.old.len + 10 }
     {
         // not `write!`: no clause says that it succeeds
         let end = self.len + digit_count(n);
-        let out = &mut *self.out;
-        write_digits(n as u64, out, end);
+        write_digits(n as u64, &mut *self.out, end);
         self.len = end;
     }
 
     pub(crate) fn append_hex(&mut self, more: &[u8])
-        requires { self.old.len + 2 * length more.now ≤ 50 }
+        requires { self.old.len + 2 * length more.now ≤ LINE }
         ensures writes { Writes self.old (hex more.now) self.new }
         ensures few { self.new.len ≤ self.old.len + 2 * length more.now }
     {
-        let at = self.len;
-        let out = &mut *self.out;
-        // tried over `as_chunks_mut::<2>()` zipped with the bytes: no clause says what it leaves in the buffer
-        for (i, b) in more.iter().enumerate() {
-            let [high, low] = hex_pair(*b);
-            out[at + 2 * i] = high;
-            out[at + 2 * i + 1] = low;
+        for b in more {
+            self.append(&hex_pair(*b));
         }
-        self.len = at + 2 * more.len();
     }
 }

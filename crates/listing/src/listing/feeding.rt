@@ -8,7 +8,7 @@ ghost use Rattle.tape.specs.Follow.{Follows, model};
 ghost use Rattle.tape.specs.Reading.{Reads};
 ghost use Rattle.listing.specs.Lines.{lines, closing_of};
 ghost use Rattle.listing.specs.Listing.{tape_of, Listens, FedOn, WentOn, Stops};
-ghost use Rattle.listing.specs.Steps.{Stepped, Hears, Advances};
+ghost use Rattle.listing.specs.Steps.{Stepped, Hears, Advances, FedOnce};
 
 use crate::gathering::gather;
 use crate::line::{LINE, compose, write_closing};
@@ -17,20 +17,16 @@ use refusal::refusals::Refusal;
 use tape::reader::TapeReader;
 use tape::signals::{Entry, Signal, TapeFull};
 
-// Writes the line of the entry, if there is one, to the front of a buffer that has room for it.
-fn write_entry(entry: Option<Entry>, out: &mut [u8]) -> usize
-    requires { 50 ≤ length out.old }
+// Writes the line of the entry, if there is one, to the front of the buffer.
+fn write_entry(entry: Option<Entry>, room: &mut [u8; LINE]) -> usize
     ensures counts { result ≡ length (lines (option_to_list entry)) }
-    ensures holds { out.new ≡ lines (option_to_list entry) ++ drop result out.old }
-    ensures few { result ≤ 50 }
+    ensures holds { room.new ≡ lines (option_to_list entry) ++ drop result room.old }
+    ensures few { result ≤ LINE }
 {
-    let Some(entry) = entry else {
-        return 0;
-    };
-    let Some(room) = out.first_chunk_mut::<LINE>() else {
-        return 0;
-    };
-    compose(&entry, room)
+    match entry {
+        Some(entry) => compose(&entry, room),
+        None => 0,
+    }
 }
 
 impl Listing {
@@ -106,6 +102,18 @@ impl Listing {
         }
     }
 
+    // Advances and writes the line of the entry, if the buffer has room for a longest line. Else it does nothing.
+    fn feed_once(&mut self, piece: &[u8], scratch: &mut [u8; 256], out: &mut [u8]) -> Option<Fed>
+        requires { 0 < length piece.now }
+        ensures some { IfSome result (FedOnce self.old piece.now out.old self.new out.new) }
+        ensures none { result ≡ None → (length out.old < LINE) × (self.new ≡ self.old) × (out.new ≡ out.old) }
+    {
+        let room = out.first_chunk_mut::<LINE>()?;
+        let Advance { taken, entry } = self.advance(piece, scratch);
+        let written = write_entry(entry, room);
+        Some(Fed { taken, written })
+    }
+
     // Goes on with the listing: takes bytes from the front of the piece, and writes the lines that they complete to the front of
     // the buffer, as long as the buffer has room for a longest line.
     pub fn feed(&mut self, piece: &[u8], out: &mut [u8]) -> Fed
@@ -115,17 +123,19 @@ impl Listing {
     {
         // tried in `leap`, where it is used: 235 MB/s against 325, since each step then clears it
         let mut scratch = [0; 256];
-        // both counts are what is told, and neither grows by one
-        let mut fed = Fed {
-            taken: 0,
-            written: 0,
-        };
-        while fed.taken < piece.len() && out.len() - fed.written >= LINE {
-            let Advance { taken, entry } = self.advance(&piece[fed.taken..], &mut scratch);
-            fed.written += write_entry(entry, &mut out[fed.written..]);
-            fed.taken += taken;
+        let mut rest = piece;
+        let mut written = 0;
+        while !rest.is_empty() {
+            let Some(fed) = self.feed_once(rest, &mut scratch, &mut out[written..]) else {
+                break;
+            };
+            written += fed.written;
+            rest = &rest[fed.taken..];
         }
-        fed
+        Fed {
+            taken: piece.len() - rest.len(),
+            written,
+        }
     }
 
     // Whether more signals came than are counted, so that the listing breaks off.
