@@ -53,7 +53,7 @@ fn list(rt: &HostRuntime) -> anyhow::Result<()> {
     let mut stdin = rt.stdin();
     let mut stdout = rt.stdout();
     let mut listing = Listing::new();
-    // a count, since a stream may never end, and a loop is proved by a measure
+    // a count: a loop that may never end would need the right to wait, which no program here has
     for _ in 0..u64::MAX {
         let size = stdin.read(&mut input)?;
         if size == 0 {
@@ -64,6 +64,7 @@ fn list(rt: &HostRuntime) -> anyhow::Result<()> {
             return Err(anyhow!("more than 4294967295 signals: listed as far as these"));
         }
     }
+    // tried `map_err` with `?`: the bound of the slice stays open
     let Ok(size) = listing.close(&mut output) else {
         return Err(anyhow!("no room for the closing line"));
     };

@@ -9,7 +9,7 @@ pub struct Listing {
     reader: TapeReader,
     // the high byte of a signal number whose low byte has not come
     high: Option<u8>,
-    // a signal came that the full tape did not take
+    // a signal came that the full tape did not take; a flag and no error, since a call of `feed` cannot fail
     over: bool,
 }
 

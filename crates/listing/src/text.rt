@@ -6,7 +6,7 @@ use crate::line::LINE;
 use itoa::write_digits;
 
 // The capital hexadecimal digits of every byte, two and two.
-// tried sixteen digits, with two look-ups for each byte: 303 MB/s against 320
+// tried sixteen digits, with two look-ups for each byte: 304 MB/s against 342 in one run
 const DIGITS: [u8; 512] = *b"\
     000102030405060708090A0B0C0D0E0F101112131415161718191A1B1C1D1E1F\
     202122232425262728292A2B2C2D2E2F303132333435363738393A3B3C3D3E3F\
@@ -70,7 +70,6 @@ impl<'a> Pen<'a> {
         self.len = end;
     }
 
-    #[inline(always)]
     pub(crate) fn append_decimal(&mut self, n: u32)
         requires { self.old.len + 10 ≤ LINE }
         ensures writes { Writes self.old (decimal n) self.new }
@@ -78,7 +77,7 @@ impl<'a> Pen<'a> {
     {
         // not `write!`: no clause says that it succeeds
         let end = self.len + digit_count(n);
-        write_digits(n as u64, &mut *self.out, end);
+        write_digits(n as u64, self.out, end);
         self.len = end;
     }
 
@@ -87,8 +86,15 @@ impl<'a> Pen<'a> {
         ensures writes { Writes self.old (hex more.now) self.new }
         ensures few { self.new.len ≤ self.old.len + 2 * length more.now }
     {
-        for b in more {
-            self.append(&hex_pair(*b));
+        let at = self.len;
+        // as in `append`
+        let out = &mut *self.out;
+        // tried `self.append(&hex_pair(*b))` for each byte: 314 MB/s against 339 in one run
+        for (i, b) in more.iter().enumerate() {
+            let [high, low] = hex_pair(*b);
+            out[at + 2 * i] = high;
+            out[at + 2 * i + 1] = low;
         }
+        self.len = at + 2 * more.len();
     }
 }
