@@ -14,6 +14,7 @@ use refusal::refusals::Refusal;
 #[derive(Clone, Copy, PartialEq, Eq, Debug)]
 pub struct BlindsKind;
 
+// Whether a subtype has this ID; so with the unit and the command below.
 fn has_id(sub: u8, id: u32) -> bool
     ensures { result ≡ in_range 1 id (id_max sub) }
 {

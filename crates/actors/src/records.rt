@@ -1,5 +1,5 @@
 // The records of commanded devices, lawful by their type: each ghost field is the range test of `Rattle.actors.specs.Ranges`.
-// Subtype, command and status are numbers, not enums: each in range is lawful, named or not (docs/DECISIONS.md, 17).
+// Subtype, command and status are numbers, not enums: each in range is lawful, named or not (docs/DECISIONS.md).
 ghost use Rattle.std.specs.Prelude.{◌≡◌, true};
 ghost use Rattle.actors.specs.Ranges.{blinds_ok, security_ok};
 
@@ -11,7 +11,7 @@ pub struct Blinds {
     pub id: u32,
     pub unit: u8,
     pub command: u8,
-    // one byte in the frame, with the battery: one operation each way, where a type for it with its own fact would be longer
+    // with the battery one byte of the frame; no type of their own, since programs print the fields as they stand
     pub strength: u8,
     pub battery: u8,
     ghost ok: { blinds_ok subtype id unit command strength battery ≡ true },

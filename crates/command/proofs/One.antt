@@ -1,13 +1,12 @@
 -- Commands and what may be sent are one to one, and so are commands with numbers and their frames.
 use Rattle.std.proofs.Common.{◌≡◌, ℕ, ◌<◌, Bool, true, false, cond, eqb, List, ◌∷◌, get_or, drop, is_ok, Ok, Err, Result, sym, refl, ap, ◌∙◌, inl, inr, arith}
-use mathlib.Core.HLevel.{is_prop→PathP}
-use mathlib.Core.Bool.{Bool-set}
 use Rattle.std.proofs.lemmas.Bool.{cases_eq}
 use Rattle.std.proofs.lemmas.Bool.Decides.{nat_tests}
 use Rattle.frame.specs.Faults.{Verdict, passed}
 use Rattle.frame.specs.Fields.{Bytes}
 use Rattle.frame.specs.Frames.{packet}
 use Rattle.frame.specs.Model.{Model, Law, checked}
+use Rattle.frame.specs.Same.{same_ok}
 use Rattle.frame.proofs.Checked.{size_of, verdict_passed}
 use Rattle.frame.proofs.Whole.{written_passes}
 use Rattle.refusal.specs.declared.refusals.Refusal.{Refusal}
@@ -30,7 +29,7 @@ use Rattle.command.specs.Kinds.{mode_fails, mode_sends, blinds_fails, blinds_sen
 same : (c d : Command) → c.order ≡ d.order → c ≡ d
 same c d e = λ i. record {
   order = e i;
-  ok = is_prop→PathP (λ j. may_send_order (e j) ≡ true) (λ j. Bool-set (may_send_order (e j)) true) c.ok d.ok i;
+  ok = same_ok (λ j. may_send_order (e j)) c.ok d.ok i;
 }
 
 order_one : (a b : Order) → spelled_by a ≡ spelled_by b → a ≡ b
@@ -65,11 +64,11 @@ pub may : EachCommandMayBeSent
 may c number s xs e = order_may c.order c.ok number s xs e
 
 -- what was made of a command's type, subtype and data is that command
-pub made_back : (r : Result Command Refusal) (c : Command) (number s : ℕ) (xs : List ℕ) → told r ≡ asked number s xs → spelling c ≡ number ∷ s ∷ xs → r ≡ Ok c
-made_back (Ok d) c number s xs t e =
+pub made_back : {number s : ℕ} {xs : List ℕ} (r : Result Command Refusal) → told r ≡ asked number s xs → (c : Command) → spelling c ≡ number ∷ s ∷ xs → r ≡ Ok c
+made_back {number} {s} {xs} (Ok d) t c e =
     let f = t ∙ ap (λ p. cond p (Ok (number ∷ s ∷ xs)) (Err NoSuchCommand)) (may c number s xs e) ∙ ap Ok (sym e) in
     ap Ok (one d c (cc))
-made_back (Err x) c number s xs t e =
+made_back {number} {s} {xs} (Err x) t c e =
     let f = t ∙ ap (λ p. cond p (Ok (number ∷ s ∷ xs)) (Err NoSuchCommand)) (may c number s xs e) in
     cc
 

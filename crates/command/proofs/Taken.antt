@@ -11,7 +11,7 @@ use Rattle.command.specs.Orders.{may_send_order}
 use Rattle.command.specs.Commands.{asked, spelled_by}
 
 -- the answer where a record was read: its order, if that may be sent
-abbrev pub answered : Order → Result (List ℕ) Refusal
+abbrev answered : Order → Result (List ℕ) Refusal
 answered o = cond (may_send_order o) (Ok (spelled_by o)) (Err NoSuchCommand)
 
 read_data : (v : Verdict) (l xs : List ℕ) → ◌≡◌ {A = Result (List ℕ) Fault} (Ok l) (after v xs) → l ≡ xs

@@ -14,8 +14,9 @@ use control::mode::ModeKind;
 use control::records::SetMode;
 use frame::kind::Kind;
 
-// A kind that is sent: its records are one case of `Order`.
-pub trait SendKind: Kind {
+// A kind that is sent: its records are one case of `Order`. No trait in common with the kinds that are read: Set Mode is not read,
+// and the laws here are over what may be sent.
+pub(crate) trait SendKind: Kind {
     ghost case: { Self.Record → Order };
 
     // The record, as one that a command writes. Not `From<Self::Record>`: the laws need a block for each kind anyway.

@@ -2,7 +2,7 @@
 #![tactic(auto)]
 
 pub mod commands;
-pub mod kinds;
+mod kinds;
 pub mod laws;
 pub mod making;
 pub mod orders;

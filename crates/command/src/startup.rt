@@ -29,11 +29,12 @@ impl Startup {
         }
     }
 
-    // Which of the two packets the bytes are, compared byte by byte; none where they are neither. That they are constants to
-    // compare with is a form that the customer fixed.
+    // Which of the two packets the bytes are, compared byte by byte; none where they are neither. The two packets are constants,
+    // written whole; there is nothing in them to parse.
     pub fn recognise(bytes: &[u8]) -> Option<Startup>
         ensures { Recognised bytes.now result }
     {
+        // tried as one `find` over the two: that needs a proof of what the array hands out, and these two tests need none
         if bytes == RESET.as_slice() {
             return Some(Startup::Reset);
         }

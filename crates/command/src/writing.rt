@@ -13,7 +13,7 @@ use frame::kind::Kind;
 use frame::packet::Packet;
 use refusal::refusals::Refusal;
 
-// In each of the three, every arm names another kind: a generic function would need this very match to find the kind.
+// one arm to a kind, in all three: a generic function would need this very match to find it
 impl Command {
     // Its type number.
     pub fn type_number(&self) -> u8

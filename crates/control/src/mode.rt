@@ -51,19 +51,13 @@ impl Kind for ModeKind {
         if *msg3 / 64 % 2 != 0 {
             return Err(Fault::OutOfRange(7));
         }
-        if *z6 != 0 {
-            return Err(Fault::OutOfRange(10));
+        match [*z6, *z7, *z8, *z9] {
+            [0, 0, 0, 0] => Ok(()),
+            [0, 0, 0, _] => Err(Fault::OutOfRange(13)),
+            [0, 0, _, _] => Err(Fault::OutOfRange(12)),
+            [0, _, _, _] => Err(Fault::OutOfRange(11)),
+            _ => Err(Fault::OutOfRange(10)),
         }
-        if *z7 != 0 {
-            return Err(Fault::OutOfRange(11));
-        }
-        if *z8 != 0 {
-            return Err(Fault::OutOfRange(12));
-        }
-        if *z9 != 0 {
-            return Err(Fault::OutOfRange(13));
-        }
-        Ok(())
     }
 
     fn read(sub: u8, data: &[u8]) -> Result<SetMode, Fault> {

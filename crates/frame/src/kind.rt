@@ -6,8 +6,9 @@ ghost use Rattle.refusal.specs.Output.{Put};
 use crate::faults::Fault;
 use refusal::refusals::Refusal;
 
-// `sub` and `data` travel apart: in a frame the sequence number stands between them, and users write a kind in this form.
+// `sub` and `data` are two parameters: in a frame the sequence number stands between them.
 pub trait Kind {
+    // A clause cannot name a constant, so a ghost member of its name stands beside each; the check proves the two equal.
     const TYPE: u8;
 
     ghost TYPE: { ℕ };
@@ -20,7 +21,8 @@ pub trait Kind {
 
     ghost model: { Model Self.Record };
 
-    // Whether a subtype and data are a record's, or else the first fault.
+    // Whether a subtype and data are a record's, or else the first fault. Not a part of `read`: the two together would be a long
+    // function in most kinds, so each takes the data apart.
     fn check(sub: u8, data: &[u8]) -> Result<(), Fault>
         ensures { result ≡ checked model sub «data».now };
 

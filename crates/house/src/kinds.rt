@@ -1,6 +1,6 @@
 // The house records of the seven kinds (docs/HOUSE.md).
 ghost use Rattle.std.specs.Prelude.{refl};
-ghost use Rattle.house.specs.House.{behind, interface_fields, transmitter_fields, blinds_fields, security_fields, climate_fields, rain_fields, meter_fields};
+ghost use Rattle.house.specs.House.{interface_fields, transmitter_fields, blinds_fields, security_fields, climate_fields, rain_fields, meter_fields};
 
 use crate::kind::HouseKind;
 use actors::blinds::BlindsKind;
@@ -24,11 +24,9 @@ impl HouseKind for InterfaceKind {
 
     ghost fields = { interface_fields };
 
-    ghost own = { λ r. behind (interface_fields 0 r) };
-
     ghost laid_so = { λ seq r. refl };
 
-    // They are the data of the frame.
+    // The fields are the data of the frame.
     fn write_fields(record: &InterfaceMessage, out: &mut [u8]) -> Result<usize, Refusal> {
         InterfaceKind::write(record, out)
     }
@@ -41,11 +39,9 @@ impl HouseKind for TransmitterKind {
 
     ghost fields = { transmitter_fields };
 
-    ghost own = { λ r. behind (transmitter_fields 0 r) };
-
     ghost laid_so = { λ seq r. refl };
 
-    // They are the data of the frame.
+    // The fields are the data of the frame.
     fn write_fields(record: &TransmitterMessage, out: &mut [u8]) -> Result<usize, Refusal> {
         TransmitterKind::write(record, out)
     }
@@ -57,8 +53,6 @@ impl HouseKind for BlindsKind {
     ghost MAP = { 0x180F };
 
     ghost fields = { blinds_fields };
-
-    ghost own = { λ r. behind (blinds_fields 0 r) };
 
     ghost laid_so = { λ seq r. refl };
 
@@ -87,8 +81,6 @@ impl HouseKind for SecurityKind {
 
     ghost fields = { security_fields };
 
-    ghost own = { λ r. behind (security_fields 0 r) };
-
     ghost laid_so = { λ seq r. refl };
 
     fn write_fields(security: &Security, out: &mut [u8]) -> Result<usize, Refusal> {
@@ -114,8 +106,6 @@ impl HouseKind for ClimateKind {
     ghost MAP = { 0x1873 };
 
     ghost fields = { climate_fields };
-
-    ghost own = { λ r. behind (climate_fields 0 r) };
 
     ghost laid_so = { λ seq r. refl };
 
@@ -151,8 +141,6 @@ impl HouseKind for RainKind {
 
     ghost fields = { rain_fields };
 
-    ghost own = { λ r. behind (rain_fields 0 r) };
-
     ghost laid_so = { λ seq r. refl };
 
     fn write_fields(rain: &Rain, out: &mut [u8]) -> Result<usize, Refusal> {
@@ -184,8 +172,6 @@ impl HouseKind for MeterKind {
     ghost MAP = { 0x1403 };
 
     ghost fields = { meter_fields };
-
-    ghost own = { λ r. behind (meter_fields 0 r) };
 
     ghost laid_so = { λ seq r. refl };
 

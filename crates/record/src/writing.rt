@@ -19,7 +19,7 @@ pub fn write_record(packet: &Packet<Record>, out: &mut [u8]) -> Result<usize, Re
     ensures { Put (frame_of packet.now) out.old result out.new }
 {
     let seq = packet.seq;
-    // each arm names another kind, so that a generic function would need this very match to find the kind
+    // one arm to a kind: a generic function would need this very match to find it
     match packet.record {
         Record::Interface(record) => write_frame::<InterfaceKind>(&Packet { seq, record }, out),
         Record::Transmitter(record) => write_frame::<TransmitterKind>(&Packet { seq, record }, out),

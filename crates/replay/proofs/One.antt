@@ -1,5 +1,5 @@
 -- Packets and lawful house records are one to one.
-use Rattle.std.proofs.Common.{◌≡◌, ℕ, ◌<◌, ◌≤◌, Bool, true, false, cond, ◌&&◌, eqb, leb, List, length, get_or, drop, Some, Ok, Err, Result, sym, refl, ap, ◌∙◌, subst, inl, inr, arith, eqb-true, leb-true, le-leb}
+use Rattle.std.proofs.Common.{◌≡◌, ℕ, ◌<◌, ◌≤◌, Bool, true, false, cond, ◌&&◌, eqb, leb, List, length, get_or, drop, Some, unwrap_or, Ok, Err, Result, sym, refl, ap, ◌∙◌, subst, inl, inr, arith, eqb-true, leb-true, le-leb}
 use borrow.Author.Tests.{lt-leb}
 use Rattle.std.proofs.lemmas.List.{drop_more}
 use Rattle.std.proofs.lemmas.Bool.{cases_eq as equal}
@@ -18,17 +18,11 @@ use Rattle.house.specs.House.{house_of}
 use Rattle.replay.specs.Back.{map_by, is_map, headed, lawful_by, lawful, given, house_verdict, housed}
 use Rattle.replay.specs.Laws.{EachPacketsHouseRecordIsLawful, NoTwoPacketsHaveOneHouseRecord, EachLawfulHouseRecordIsAPackets, AFrameComesBack}
 use Rattle.replay.proofs.Numbers.{two_at}
-use Rattle.replay.proofs.EachKind.{behind, kind_lawful, kind_one, kind_onto}
+use Rattle.replay.proofs.EachKind.{own, kind_lawful, kind_one, kind_onto}
 
 -- the map of a kind
 abbrev mapped : Sort → ℕ
-mapped interface_messages = 0x2001
-mapped transmitter_messages = 0x0009
-mapped blinds_frames = 0x180F
-mapped contacts = 0x180B
-mapped climates = 0x1873
-mapped rains = 0x1883
-mapped meters = 0x1403
+mapped k = unwrap_or (map_by (model k).number) 0
 
 maps_to : (k : Sort) → map_by (model k).number ≡ Some (mapped k)
 maps_to interface_messages = refl
@@ -41,7 +35,7 @@ maps_to meters = refl
 
 -- the house record of a packet of a kind
 abbrev laid_out : (k : Sort) → ℕ → Of k → List ℕ
-laid_out k seq r = headed (mapped k) (model k).number ((model k).sub_of r) seq (behind k r)
+laid_out k seq r = headed (mapped k) (model k).number ((model k).sub_of r) seq (own k r)
 
 injected : (k : Sort) (seq : ℕ) (r : Of k) → house_of (packet seq (inject k r)) ≡ laid_out k seq r
 injected interface_messages seq r = refl
@@ -69,7 +63,7 @@ pub house_lawful : EachPacketsHouseRecordIsLawful
 house_lawful p =
     let k = sort_of p.«record» in
     let r = body p.«record» in
-    ap lawful (house_is p.seq p.«record») ∙ headed_lawful k ((model k).sub_of r) p.seq (behind k r) (kind_lawful k r)
+    ap lawful (house_is p.seq p.«record») ∙ headed_lawful k ((model k).sub_of r) p.seq (own k r) (kind_lawful k r)
 
 -- two packets of kinds with one house record are of one kind, and one
 one_kind : (k l : Sort) → k ≡ l → (s t : ℕ) (a : Of k) (b : Of l) → laid_out k s a ≡ laid_out l t b → packet s (inject k a) ≡ packet t (inject l b)

@@ -1,6 +1,5 @@
 -- Which bytes are a house record, and what is read of them (docs/HOUSE.md).
-use Rattle.std.specs.Prelude.{◌≡◌, ℕ, ◌+◌, ◌-◌, Bool, true, false, cond, ◌&&◌, List, ◌∷◌, ◌++◌, length, drop, ℤ, pos, negsuc, Some, None, Option, Ok, Err, Result, ◌==◌, nat_le, nat_lt}
-use Rattle.frame.specs.Faults.{Verdict}
+use Rattle.std.specs.Prelude.{◌≡◌, ℕ, ◌+◌, ◌-◌, Bool, false, cond, ◌&&◌, List, ◌∷◌, ◌++◌, length, drop, ℤ, pos, negsuc, Some, None, Option, Ok, Err, Result, ◌==◌, nat_le, nat_lt}
 use Rattle.frame.specs.Fields.{at8, at16, at24, at32}
 use Rattle.frame.specs.declared.packet.Packet.{Packet}
 use Rattle.refusal.specs.Output.{Put}
@@ -57,7 +56,7 @@ map_by number =
     (cond (number == 0x55) (Some 0x1883)
     (cond (number == 0x71) (Some 0x1403) None))))))
 
--- a map is just this one
+-- the type has a map, and it is this one
 abbrev pub is_map : Option ℕ → ℕ → Bool
 is_map (Some m) map = map == m
 is_map None map = false
@@ -87,11 +86,6 @@ given ok xs = cond ok (Ok xs) (Err NoHouseRecord)
 
 abbrev pub house_verdict : List ℕ → Result (List ℕ) Refusal
 house_verdict xs = given (lawful xs) xs
-
--- the check of a frame's data found no fault
-abbrev pub passes : Verdict → Bool
-passes (Ok u) = true
-passes (Err f) = false
 
 -- a reading of a kind's own fields, with the record as its subtype and these fields
 module _ {R : Type 0} where

@@ -1,6 +1,6 @@
 // House records back: the packet of a stored house record, and its frame (docs/HOUSE.md).
 #![tactic(auto)]
 
-pub mod kinds;
+mod kinds;
 pub mod laws;
 pub mod reading;

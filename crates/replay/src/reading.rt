@@ -21,42 +21,45 @@ use sensors::climate::ClimateKind;
 use sensors::meter::MeterKind;
 use sensors::rain::RainKind;
 
-// What a map, subtype and sequence number say for a kind, and the fields behind them.
-fn read_as<K: StoredKind>(
-    map: u16,
-    sub: u8,
-    seq: u8,
-    fields: &[u8],
-) -> Result<Packet<Record>, Refusal>
-    ensures { housed result ≡ given (map == K.MAP && K.lawful sub fields.now) (headed map K.TYPE sub seq fields.now) }
-{
-    if map != K::MAP {
-        return Err(Refusal::NoHouseRecord);
-    }
-    let record = K::wrap(K::read_fields(sub, fields)?);
-    Ok(Packet { seq, record })
-}
-
-// What a map, type, subtype and sequence number say, and the fields behind them.
-// They come one by one, since the proof of an arm did not close over the whole house record.
-fn read_by_type(
+// A house record in its parts: map, type, subtype and sequence number, and the fields behind them.
+#[derive(Drop)]
+struct Stored<'a> {
     map: u16,
     kind: u8,
     sub: u8,
     seq: u8,
-    fields: &[u8],
-) -> Result<Packet<Record>, Refusal>
-    ensures { housed result ≡ given (is_map (map_by kind) map && lawful_by kind sub fields.now) (headed map kind sub seq fields.now) }
-{
-    match kind {
-        InterfaceKind::TYPE => read_as::<InterfaceKind>(map, sub, seq, fields),
-        TransmitterKind::TYPE => read_as::<TransmitterKind>(map, sub, seq, fields),
-        BlindsKind::TYPE => read_as::<BlindsKind>(map, sub, seq, fields),
-        SecurityKind::TYPE => read_as::<SecurityKind>(map, sub, seq, fields),
-        ClimateKind::TYPE => read_as::<ClimateKind>(map, sub, seq, fields),
-        RainKind::TYPE => read_as::<RainKind>(map, sub, seq, fields),
-        MeterKind::TYPE => read_as::<MeterKind>(map, sub, seq, fields),
-        _ => Err(Refusal::NoHouseRecord),
+    fields: &'a [u8],
+}
+
+impl<'a> Stored<'a> {
+    // Its packet, where its type is that of the kind.
+    fn read_as<K: StoredKind>(&self) -> Result<Packet<Record>, Refusal>
+        ensures { housed result ≡ given (self.now.map == K.MAP && K.lawful self.now.sub self.now.fields.now) (headed self.now.map K.TYPE self.now.sub self.now.seq self.now.fields.now) }
+    {
+        if self.map != K::MAP {
+            return Err(Refusal::NoHouseRecord);
+        }
+        let record = K::wrap(K::read_fields(self.sub, self.fields)?);
+        Ok(Packet {
+            seq: self.seq,
+            record,
+        })
+    }
+
+    // Its packet, read by the kind that has its type.
+    fn read(&self) -> Result<Packet<Record>, Refusal>
+        ensures { housed result ≡ given (is_map (map_by self.now.kind) self.now.map && lawful_by self.now.kind self.now.sub self.now.fields.now) (headed self.now.map self.now.kind self.now.sub self.now.seq self.now.fields.now) }
+    {
+        match self.kind {
+            InterfaceKind::TYPE => self.read_as::<InterfaceKind>(),
+            TransmitterKind::TYPE => self.read_as::<TransmitterKind>(),
+            BlindsKind::TYPE => self.read_as::<BlindsKind>(),
+            SecurityKind::TYPE => self.read_as::<SecurityKind>(),
+            ClimateKind::TYPE => self.read_as::<ClimateKind>(),
+            RainKind::TYPE => self.read_as::<RainKind>(),
+            MeterKind::TYPE => self.read_as::<MeterKind>(),
+            _ => Err(Refusal::NoHouseRecord),
+        }
     }
 }
 
@@ -69,8 +72,14 @@ pub fn read_house(house: &[u8]) -> Result<Packet<Record>, Refusal>
     let [map0, map1, kind, sub, seq, fields @ ..] = house else {
         return Err(Refusal::NoHouseRecord);
     };
-    let map = u16::from_be_bytes([*map0, *map1]);
-    read_by_type(map, *kind, *sub, *seq, fields)
+    let stored = Stored {
+        map: u16::from_be_bytes([*map0, *map1]),
+        kind: *kind,
+        sub: *sub,
+        seq: *seq,
+        fields,
+    };
+    stored.read()
 }
 
 // Puts the frame of the packet whose house record this is at the front of the buffer. A house record that is no packet's is

@@ -14,15 +14,15 @@ use refusal::refusals::Refusal;
 pub struct ClimateKind;
 
 // The number of a sign and a size: no two's complement.
-fn from_signed(hi: u8, lo: u8) -> i16
+fn from_sign_and_size(hi: u8, lo: u8) -> i16
     ensures { result ≡ signed hi lo }
 {
     let size = i16::from_be_bytes([hi % 128, lo]);
     if hi < 128 { size } else { -size }
 }
 
-// The sign and the high bits of the size, and its low bits.
-fn to_signed(t: i16) -> [u8; 2]
+// The sign and the high bits of the size, and its low bits. No `From`: two bytes have no room for the size of -32768.
+fn to_sign_and_size(t: i16) -> [u8; 2]
     requires { unsigned_abs t ≤ 0x7FFF }
     ensures { result ≡ high_byte_of t ∷ unsigned_abs t % 256 ∷ [] }
 {
@@ -82,7 +82,7 @@ impl Kind for ClimateKind {
         Ok(Climate {
             subtype: sub,
             id: u16::from_be_bytes([*id0, *id1]),
-            temperature: from_signed(*t0, *t1),
+            temperature: from_sign_and_size(*t0, *t1),
             humidity: *humidity,
             humidity_status: *status,
             pressure: u16::from_be_bytes([*p0, *p1]),
@@ -98,7 +98,7 @@ impl Kind for ClimateKind {
 
     fn write(record: &Climate, out: &mut [u8]) -> Result<usize, Refusal> {
         let [id0, id1] = record.id.to_be_bytes();
-        let [t0, t1] = to_signed(record.temperature);
+        let [t0, t1] = to_sign_and_size(record.temperature);
         let [p0, p1] = record.pressure.to_be_bytes();
         let tail = record.strength * 16 + record.battery;
         put(

@@ -1,5 +1,5 @@
 // The sensors' records, lawful by their type: each ghost field is the range test of `Rattle.sensors.specs.Ranges`.
-// Subtype, status and forecast are numbers, not enums: each in range is lawful, named or not (docs/DECISIONS.md, 17).
+// Subtype, status and forecast are numbers, not enums: each in range is lawful, named or not (docs/DECISIONS.md).
 ghost use Rattle.std.specs.Prelude.{◌≡◌, true};
 ghost use Rattle.sensors.specs.Ranges.{climate_ok, meter_ok, rain_ok};
 
@@ -13,7 +13,7 @@ pub struct Climate {
     pub humidity_status: u8,
     pub pressure: u16,
     pub forecast: u8,
-    // one byte in the frame, with the battery: one operation each way, where a type for it with its own fact would be longer
+    // with the battery one byte of the frame; no type of their own, since programs print the fields as they stand
     pub strength: u8,
     pub battery: u8,
     ghost ok: { climate_ok subtype id temperature humidity humidity_status pressure forecast strength battery ≡ true },

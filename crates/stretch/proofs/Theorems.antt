@@ -4,7 +4,7 @@ use mathlib.Core.List.{append_cancel_left}
 use native.Mathlib.Decide.{dec_lt}
 use Rattle.std.proofs.lemmas.Bool.Decides.{nat_tests}
 use Rattle.tape.specs.declared.signals.Entry.{Entry}
-use Rattle.tape.specs.Reading.{Parts}
+use Rattle.tape.specs.Reading.{Tells, Parts}
 use Rattle.tape.proofs.Lists.{nil_cons}
 use Rattle.tape.proofs.Unique.{parts_one}
 use Rattle.stretch.specs.Tokens.{Part, frame, empty, remnant, place_of, bytes_of, bytes, whole}
@@ -112,15 +112,16 @@ told_none e (by_frame T N) = absurd (nil_cons _ _ (sym e))
 told_none e (by_empty T N) = absurd (nil_cons _ _ (sym e))
 told_none e (by_remnant N) = absurd (nil_cons _ _ (sym e))
 
+-- a whole frame, as a token of either sort, before what the tokens behind it tell
+tell_front : {x y : Left} {f : List ℕ} {ts : List Part} (t : Part) → Front x f y → ((e : Entry) (es : List Entry) → Tells x.place f e → Told ts es → Told (t ∷ ts) (e ∷ es)) → ((es : List Entry) (q : ℕ) (r : List ℕ) → Parts y.place y.rest es q r → Tell y ts es q r) → (es : List Entry) (q : ℕ) (r : List ℕ) → Parts x.place x.rest es q r → Told (t ∷ ts) es × (remains (x.place + length x.rest) ts ≡ standing q r)
+tell_front {x} {y} {f} {ts} t F by ih es q r P =
+    let B = behind P f y.rest F.sized F.cut in
+    let k = ih B.others q r (rewritten (sym F.past) refl refl refl B.parts) in
+    (subst (Told (t ∷ ts)) (sym B.both) (by B.entry B.others B.tells k.0), same_end f F ts ∙ k.1)
+
 tell_more : {x y : Left} {t : Part} {ts : List Part} → Gives x t y → Handing y ts → ((es : List Entry) (q : ℕ) (r : List ℕ) → Parts y.place y.rest es q r → Tell y ts es q r) → (es : List Entry) (q : ℕ) (r : List ℕ) → Parts x.place x.rest es q r → Tell x (t ∷ ts) es q r
-tell_more {x} {y} {ts = ts} (of_frame {f = f} F h) N ih es q r P =
-    let B = behind P f y.rest F.sized F.cut in
-    let k = ih B.others q r (rewritten (sym F.past) refl refl refl B.parts) in
-    (subst (Told (frame x.place f ∷ ts)) (sym B.both) (by_frame B.tells k.0), same_end f F ts ∙ k.1)
-tell_more {x} {y} {ts = ts} (of_empty {f = f} F h) N ih es q r P =
-    let B = behind P f y.rest F.sized F.cut in
-    let k = ih B.others q r (rewritten (sym F.past) refl refl refl B.parts) in
-    (subst (Told (empty x.place f ∷ ts)) (sym B.both) (by_empty B.tells k.0), same_end f F ts ∙ k.1)
+tell_more {x} (of_frame {f = f} F h) N ih es q r P = tell_front (frame x.place f) F (λ e us T U. by_frame T U) ih es q r P
+tell_more {x} (of_empty {f = f} F h) N ih es q r P = tell_front (empty x.place f) F (λ e us T U. by_empty T U) ih es q r P
 tell_more {x} {ts = ts} (of_remnant some few e) N ih es q r P =
     let k = parts_one P (short x.place x.rest some few) in
     let last : Told ts [] = subst (λ l. Told l []) (sym (no_more N e)) none in

@@ -11,7 +11,7 @@ use Rattle.tape.specs.Reading.{Tells, cut, Reads}
 use Rattle.tape.specs.Laws.{OfBytes}
 use Rattle.tape.proofs.Grow.{len_byte, held, grow_more, grow_full, grow_pause, retold, reads_none}
 
-pub bytes_push : (r : List ℕ) (b : ℕ) → Bytes r → b < 256 → Bytes (r ++ b ∷ [])
+bytes_push : (r : List ℕ) (b : ℕ) → Bytes r → b < 256 → Bytes (r ++ b ∷ [])
 bytes_push [] b h l zero = l
 bytes_push [] b h l (suc i) = omega arith
 bytes_push (x ∷ r) b h l zero = h 0

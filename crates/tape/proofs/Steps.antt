@@ -46,10 +46,14 @@ module _ (t : List Signal) (es : List Entry) (s : Signal) (x : Held) (n : ℕ) (
   pub took_more : (b : ℕ) → s ≡ Byte b → x.held < get_or (set x.bytes x.held b) 0 0 → Took t es s (Ok None) (record { bytes = set x.bytes x.held b; held = x.held + 1; place = x.place; signals = n })
   took_more b e less = took None _ refl e (grow_more F.reads b (omega (arith, held_is, len_is b))) (sym (append-nil es)) refl (with b)
 
-  pub took_full : (b : ℕ) (v : Result (Packet Record) Fault) → s ≡ Byte b → get_or (set x.bytes x.held b) 0 0 ≤ x.held → told v ≡ verdict_of (take (x.held + 1) (set x.bytes x.held b)) → Took t es s (Ok (Some (record { place = x.place; verdict = v }))) (record { bytes = set x.bytes x.held b; held = 0; place = x.place + x.held + 1; signals = n })
-  took_full b v e ends to =
+  -- a step that ends a frame or a remnant: what it answers and holds is e and z
+  ended : {a e : Entry} {y z : Held} → a ≡ e → y ≡ z → Took t es s (Ok (Some e)) z → Took t es s (Ok (Some a)) y
+  ended f g T = transport (λ i. Took t es s (Ok (Some (sym f i))) (sym g i)) T
+
+  pub took_full : (b : ℕ) (v : Result (Packet Record) Fault) {a : Entry} {y : Held} → s ≡ Byte b → get_or (set x.bytes x.held b) 0 0 ≤ x.held → told v ≡ verdict_of (take (x.held + 1) (set x.bytes x.held b)) → a ≡ record { place = x.place; verdict = v } → y ≡ record { bytes = set x.bytes x.held b; held = 0; place = x.place + (x.held + 1); signals = n } → Took t es s (Ok (Some a)) y
+  took_full b v e ends to f g =
       let whole : length (take x.held x.bytes) ≡ len_byte (take x.held x.bytes) b = omega (arith, held_is, len_is b, held F.reads b) in
-      took (Some _) _ refl e (grow_full F.reads b whole _ (record { placed = refl; judged = to ∙ ap verdict_of (sym (with b)) })) refl (omega (arith, held_is, whole)) refl
+      ended f g (took (Some _) _ refl e (grow_full F.reads b whole _ (record { placed = refl; judged = to ∙ ap verdict_of (sym (with b)) })) refl (omega (arith, held_is, whole)) refl)
 
   pub took_quiet : s ≡ Pause → x.held ≡ 0 → Took t es s (Ok None) (record { bytes = x.bytes; held = x.held; place = x.place; signals = n })
   took_quiet e h =
@@ -60,10 +64,10 @@ module _ (t : List Signal) (es : List Entry) (s : Signal) (x : Held) (n : ℕ) (
   cut_some q [] h = absurd (omega arith)
   cut_some q (b ∷ l) h = refl
 
-  pub took_cut : s ≡ Pause → 0 < x.held → Took t es s (Ok (Some (record { place = x.place; verdict = Err (Cut x.held) }))) (record { bytes = x.bytes; held = 0; place = x.place + x.held; signals = n })
-  took_cut e some =
+  pub took_cut : {a : Entry} {y : Held} → s ≡ Pause → 0 < x.held → a ≡ record { place = x.place; verdict = Err (Cut x.held) } → y ≡ record { bytes = x.bytes; held = 0; place = x.place + x.held; signals = n } → Took t es s (Ok (Some a)) y
+  took_cut e some f g =
       let one = cut_some x.place (take x.held x.bytes) (omega (arith, held_is)) in
-      took (Some _) _ refl e (grow_pause F.reads) (ap (λ l. es ++ l) (one ∙ ap (λ k. record { place = x.place; verdict = Err (Cut k) } ∷ []) held_is)) (ap (λ k. x.place + k) held_is) refl
+      ended f g (took (Some _) _ refl e (grow_pause F.reads) (ap (λ l. es ++ l) (one ∙ ap (λ k. record { place = x.place; verdict = Err (Cut k) } ∷ []) held_is)) (ap (λ k. x.place + k) held_is) refl)
 
 -- a whole frame at once
 pub took_frame : (t : List Signal) (es : List Entry) (f : List ℕ) (a : Entry) (x y : Held) → Follows t es x → x.held ≡ 0 → length f ≡ get_or f 0 0 + 1 → a.place ≡ x.place → told a.verdict ≡ verdict_of f → y.held ≡ 0 → y.place ≡ x.place + length f → y.signals ≡ x.signals + length f → Follows (t ++ map Byte f) (es ++ a ∷ []) y

@@ -1,5 +1,6 @@
 -- What a tape reader holds, and what one more signal gives (docs/READING.md).
-use Rattle.std.specs.Prelude.{◌≡◌, ℕ, ◌+◌, Bool, true, false, cond, ◌&&◌, List, [], ◌∷◌, ◌++◌, length, take, ◌==◌, nat_le, slice_index, Result, Ok, Err, Option, Some, None}
+use Rattle.std.specs.Prelude.{◌≡◌, ℕ, ◌+◌, Bool, cond, ◌&&◌, List, [], ◌∷◌, ◌++◌, length, take, ◌==◌, nat_le, slice_index, Result, Ok, Err, Option, is_err}
+use Rattle.std.specs.Option.{option_to_list}
 use Rattle.tape.specs.declared.signals.Signal.{Signal}
 use Rattle.tape.specs.declared.signals.Entry.{Entry}
 use Rattle.tape.specs.declared.signals.TapeFull.{TapeFull}
@@ -34,13 +35,12 @@ pub record Follows (t : List Signal) (es : List Entry) (x : Held) : Type 0 where
 
 -- the entries that an answer tells
 abbrev pub gained : Result (Option Entry) TapeFull → List Entry
-gained (Ok None) = []
-gained (Ok (Some e)) = e ∷ []
+gained (Ok e) = option_to_list e
 gained (Err f) = []
 
+-- the answer that refuses
 abbrev pub is_full : Result (Option Entry) TapeFull → Bool
-is_full (Ok e) = false
-is_full (Err f) = true
+is_full r = is_err r
 
 -- a reader of the tape t, whose entries are es, was given the signal s and answered r: it refused just where the tape is full,
 -- and now it follows the tape with s, whose entries are es and those that r tells

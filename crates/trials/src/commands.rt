@@ -1,20 +1,9 @@
 // What may be sent: every status to every subtype, and the limits of the other commands.
-use crate::helps::{Writes, bytes, written};
+use crate::helps::{bytes, written};
 use command::commands::Command;
-use refusal::refusals::Refusal;
+use std::alloc::Global;
+use std::process::Abort;
 use std::test::Fail;
-
-#[derive(Drop)]
-struct Sent {
-    command: Command,
-    seq: u8,
-}
-
-impl Writes for Sent {
-    fn write(&self, out: &mut [u8]) -> Result<usize, Refusal> {
-        self.command.write(self.seq, out)
-    }
-}
 
 // The status that may be sent to a security contact, by its subtype.
 static STATUSES: [(u8, &'static str); 11] = [
@@ -31,14 +20,20 @@ static STATUSES: [(u8, &'static str); 11] = [
     (0x0A, ""),
 ];
 
+// Of all statuses, those of the text may be sent to a subtype.
+fn sends(rt: &impl Abort, heap: Global, sub: u8, text: &'static str) -> Result<(), Fail> {
+    let sendable = bytes(rt, heap, text)?;
+    for status in 0..=255u8 {
+        let made = Command::make(0x20, sub, &[1, 2, 3, status, 0]);
+        assert_eq!(rt; made.is_ok(), sendable.contains(&status), "{}", text);
+    }
+    Ok(())
+}
+
 #[test]
 fn statuses(rt: HostRuntime) -> Result<(), Fail> {
     for &(sub, text) in &STATUSES {
-        let sendable = bytes(&rt, rt.alloc(), text)?;
-        for status in 0..=255u8 {
-            let made = Command::make(0x20, sub, &[1, 2, 3, status, 0]);
-            assert_eq!(rt; made.is_ok(), sendable.contains(&status), "{}", text);
-        }
+        sends(&rt, rt.alloc(), sub, text)?;
     }
     Ok(())
 }
@@ -110,7 +105,7 @@ fn limits(rt: HostRuntime) -> Result<(), Fail> {
             Ok(command) => {
                 assert_eq!(rt; command.size(), frame.len());
                 assert_eq!(rt; command.type_number(), kind);
-                written(&rt, rt.alloc(), &Sent { command, seq: 7 }, &frame)?;
+                written(&rt, rt.alloc(), |out| command.write(7, out), &frame)?;
             }
         }
     }

@@ -1,22 +1,21 @@
 // Frames at the limits of every field: which are records, and what is wrong with the others.
-use crate::helps::{Writes, bytes, changed, told};
+use crate::helps::{bytes, changed, told, written};
+use frame::framing::front;
 use frame::packet::Packet;
 use record::judging::judge;
 use record::records::Record;
 use record::writing::write_record;
-use refusal::refusals::Refusal;
 use std::alloc::Global;
 use std::process::Abort;
 use std::test::Fail;
 
-impl Writes for Packet<Record> {
-    fn write(&self, out: &mut [u8]) -> Result<usize, Refusal> {
-        write_record(self, out)
-    }
-}
-
+// A record is written back to the bytes of its frame.
 fn judged(rt: &impl Abort, heap: Global, given: &[u8]) -> Result<(u8, u8), Fail> {
-    told(rt, heap, judge(given), given)
+    let verdict = judge(given);
+    if let Ok(packet) = &verdict {
+        written(rt, heap, |out| write_record(packet, out), front(given)?)?;
+    }
+    Ok(told(&verdict))
 }
 
 // Every front of a frame is cut, with as many bytes as it has.

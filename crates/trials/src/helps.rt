@@ -8,12 +8,11 @@ use std::test::Fail;
 // What no written byte is known to be, so that it shows which bytes of a buffer are as they were.
 const OLD: u8 = 0xA5;
 
-fn digit(letter: u8) -> Option<u8> {
-    match letter {
-        b'0'..=b'9' => Some(letter - b'0'),
-        b'A'..=b'F' => Some(letter - b'A' + 10),
-        _ => None,
-    }
+// Small letters are no digits.
+fn digit(letter: u8) -> Option<u32> {
+    char::from(letter)
+        .to_digit(16)
+        .filter(|_| !letter.is_ascii_lowercase())
 }
 
 // The signal numbers of a text: a byte is two hexadecimal digits, `|` is 256 and `#` is 65,535. Spaces mean nothing.
@@ -30,7 +29,7 @@ pub fn numbers(rt: &impl Abort, heap: Global, text: &str) -> Result<Vec<u16>, Fa
                 match high {
                     None => high = Some(low),
                     Some(first) => {
-                        all.push(u16::from(first.wrapping_mul(16).wrapping_add(low)))?;
+                        all.push(u16::try_from(first.wrapping_mul(16).wrapping_add(low))?)?;
                         high = None;
                     }
                 }
@@ -45,7 +44,7 @@ pub fn numbers(rt: &impl Abort, heap: Global, text: &str) -> Result<Vec<u16>, Fa
 pub fn bytes(rt: &impl Abort, heap: Global, text: &str) -> Result<Vec<u8>, Fail> {
     numbers(rt, heap, text)?
         .iter()
-        .map(|&number| -> Result<u8, Fail> { Ok(u8::try_from(number)?) })
+        .map(|&number| u8::try_from(number).map_err(Fail::from))
         .try_collect(heap)
 }
 
@@ -58,21 +57,23 @@ pub fn changed(heap: Global, base: &[u8], at: usize, patch: &[u8]) -> Result<Vec
     Ok(all)
 }
 
-// What can be written into a buffer.
-pub trait Writes {
-    fn write(&self, out: &mut [u8]) -> Result<usize, Refusal>;
+// A buffer of so many places, before anything is written into it.
+pub fn unwritten(heap: Global, room: usize) -> Result<Vec<u8>, Fail> {
+    Ok(vec![in heap; OLD; room]?)
 }
 
-fn written_in<W: Writes>(
+fn written_in<W: Fn(&mut [u8]) -> Result<usize, Refusal>>(
     rt: &impl Abort,
     heap: Global,
-    what: &W,
+    write: &W,
     text: &[u8],
     room: usize,
-) -> Result<(), Fail> {
-    let old = vec![in heap; OLD; room]?;
-    let mut out = old.clone()?;
-    match what.write(&mut out) {
+) -> Result<(), Fail>
+    requires { W.IsAlwaysCallable write.now }
+{
+    let old = unwritten(heap, room)?;
+    let mut out = unwritten(heap, room)?;
+    match write(&mut out) {
         Ok(size) => {
             assert_eq!(rt; size, text.len(), "{text:?}, a buffer of {room}");
             assert_eq!(rt;
@@ -93,32 +94,24 @@ fn written_in<W: Writes>(
 
 // Into every buffer from none to three places more than are needed: written where it fits, refused with 16 where it does not, and
 // nothing else changed.
-pub fn written<W: Writes>(
+pub fn written<W: Fn(&mut [u8]) -> Result<usize, Refusal>>(
     rt: &impl Abort,
     heap: Global,
-    what: &W,
+    write: W,
     text: &[u8],
-) -> Result<(), Fail> {
+) -> Result<(), Fail>
+    requires { W.IsAlwaysCallable write }
+{
     for room in 0..text.len().saturating_add(4) {
-        written_in(rt, heap, what, text, room)?;
+        written_in(rt, heap, &write, text, room)?;
     }
     Ok(())
 }
 
-// The cause and offset of a fault, or 0 and 0. What is read without one is written back to its own bytes.
-pub fn told<W: Writes + Drop>(
-    rt: &impl Abort,
-    heap: Global,
-    verdict: Result<W, Fault>,
-    given: &[u8],
-) -> Result<(u8, u8), Fail> {
+// The cause and offset of a fault. A row says 0 0 where there is no fault: the rules number causes from 1.
+pub fn told<T>(verdict: &Result<T, Fault>) -> (u8, u8) {
     match verdict {
-        Err(fault) => Ok((fault.cause(), fault.offset())),
-        Ok(packet) => {
-            let len = given.first().ok_or("no byte")?;
-            let frame = given.get(0..usize::from(*len) + 1).ok_or("cut")?;
-            written(rt, heap, &packet, frame)?;
-            Ok((0, 0))
-        }
+        Ok(_) => (0, 0),
+        Err(fault) => (fault.cause(), fault.offset()),
     }
 }

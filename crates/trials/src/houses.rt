@@ -1,25 +1,11 @@
 // House records.
-use crate::helps::{Writes, bytes, written};
-use frame::packet::Packet;
+use crate::helps::{bytes, unwritten, written};
 use house::writing::write_house;
 use record::judging::judge;
-use record::records::Record;
-use refusal::refusals::Refusal;
 use replay::reading::{house_to_frame, read_house};
 use std::alloc::Global;
 use std::process::Abort;
 use std::test::Fail;
-
-#[derive(Drop)]
-struct House {
-    packet: Packet<Record>,
-}
-
-impl Writes for House {
-    fn write(&self, out: &mut [u8]) -> Result<usize, Refusal> {
-        write_house(&self.packet, out)
-    }
-}
 
 // Frames, and their house records.
 static PAIRS: [(&'static str, &'static str); 17] = [
@@ -151,18 +137,6 @@ static WRONG: [(&'static str, &'static str); 30] = [
     ("a counter of 29 bits", "1403 710037 000008F8 108A6467 07"),
 ];
 
-// A house record that is to be turned into its frame.
-#[derive(Drop)]
-struct Turned {
-    house: Vec<u8>,
-}
-
-impl Writes for Turned {
-    fn write(&self, out: &mut [u8]) -> Result<usize, Refusal> {
-        house_to_frame(&self.house, out)
-    }
-}
-
 fn there_and_back(
     rt: &impl Abort,
     heap: Global,
@@ -178,7 +152,7 @@ fn there_and_back(
         return Err(Fail::new(house));
     };
     assert!(rt; again == packet, "{}", house);
-    written(rt, heap, &Turned { house: stored }, &sent)
+    written(rt, heap, |out| house_to_frame(&stored, out), &sent)
 }
 
 #[test]
@@ -188,7 +162,7 @@ fn examples(rt: HostRuntime) -> Result<(), Fail> {
             return Err(Fail::new(frame));
         };
         let house = bytes(&rt, rt.alloc(), house)?;
-        written(&rt, rt.alloc(), &House { packet }, &house)?;
+        written(&rt, rt.alloc(), |out| write_house(&packet, out), &house)?;
     }
     Ok(())
 }
@@ -209,13 +183,12 @@ fn refused(rt: &impl Abort, heap: Global, why: &'static str, house: &str) -> Res
     };
     assert_eq!(rt; refusal.number(), 17, "{}", why);
     for room in 0..16 {
-        let old = vec![in heap; 0xA5; room]?;
-        let mut out = old.clone()?;
+        let mut out = unwritten(heap, room)?;
         let Err(refusal) = house_to_frame(&house, &mut out) else {
             return Err(Fail::new(why));
         };
         assert_eq!(rt; refusal.number(), 17, "{}", why);
-        assert_eq!(rt; out, old, "{}", why);
+        assert_eq!(rt; out, unwritten(heap, room)?, "{}", why);
     }
     Ok(())
 }

@@ -1,26 +1,13 @@
 // Listings: the text does not hang on how the stream is cut into pieces, nor on the buffer.
-use crate::helps::{Writes, bytes, numbers, written};
+use crate::helps::{bytes, numbers, unwritten, written};
 use frame::faults::Fault;
 use listing::line::{write_closing, write_line};
 use listing::listing::Listing;
 use record::judging::judge;
-use refusal::refusals::Refusal;
 use std::alloc::Global;
 use std::process::Abort;
 use std::test::Fail;
 use tape::signals::Entry;
-
-impl Writes for Listing {
-    fn write(&self, out: &mut [u8]) -> Result<usize, Refusal> {
-        self.close(out)
-    }
-}
-
-impl Writes for Entry {
-    fn write(&self, out: &mut [u8]) -> Result<usize, Refusal> {
-        write_line(self, out)
-    }
-}
 
 // The stream of some signals: two bytes each.
 fn stream(rt: &impl Abort, heap: Global, text: &str) -> Result<Vec<u8>, Fail> {
@@ -70,16 +57,27 @@ fn listed(
     Ok(text)
 }
 
+fn lists_in(
+    rt: &impl Abort,
+    heap: Global,
+    input: &[u8],
+    size: usize,
+    text: &str,
+) -> Result<(), Fail> {
+    for room in [50, 51, 4096] {
+        let said = listed(rt, heap, input, size, room)?;
+        assert_eq!(rt;
+            std::str::from_utf8(&said)?,
+            text,
+            "pieces of {size}, a buffer of {room}"
+        );
+    }
+    Ok(())
+}
+
 fn lists(rt: &impl Abort, heap: Global, input: &[u8], text: &str) -> Result<(), Fail> {
     for size in [1, 2, 3, 4, 5, 6, 7, 4096] {
-        for room in [50, 51, 4096] {
-            let said = listed(rt, heap, input, size, room)?;
-            assert_eq!(rt;
-                std::str::from_utf8(&said)?,
-                text,
-                "pieces of {size}, a buffer of {room}"
-            );
-        }
+        lists_in(rt, heap, input, size, text)?;
     }
     Ok(())
 }
@@ -129,10 +127,7 @@ fn streams(rt: HostRuntime) -> Result<(), Fail> {
 // A frame of 256 bytes, and one that is cut behind 255.
 #[test]
 fn longest(rt: HostRuntime) -> Result<(), Fail> {
-    let mut input = Vec::new(rt.alloc());
-    for _ in 0..511 {
-        input.extend_from_slice(&[0, 255])?;
-    }
+    let mut input = [0, 255].repeat(rt.alloc(), 511)?;
     lists(&rt, rt.alloc(), &input, "0 F 3 1\nE 511 255\n")?;
     input.extend_from_slice(&[1, 0])?;
     lists(&rt, rt.alloc(), &input, "0 F 3 1\n256 F 2 255\nE 512 0\n")
@@ -144,13 +139,12 @@ fn no_room(rt: HostRuntime) -> Result<(), Fail> {
     let input = stream(&rt, rt.alloc(), "00 00 00")?;
     let mut listing = Listing::new();
     for room in [0, 1, 49] {
-        let mut out = vec![in rt.alloc(); 0xA5; room]?;
-        let old = out.clone()?;
+        let mut out = unwritten(rt.alloc(), room)?;
         let fed = listing.feed(&input, &mut out);
         assert_eq!(rt; (fed.taken, fed.written), (0, 0));
-        assert_eq!(rt; out, old);
+        assert_eq!(rt; out, unwritten(rt.alloc(), room)?);
     }
-    written(&rt, rt.alloc(), &listing, b"E 0 0\n")
+    written(&rt, rt.alloc(), |out| listing.close(out), b"E 0 0\n")
 }
 
 // A line in every buffer: the closing line, and the longest and the shortest of the others.
@@ -162,7 +156,7 @@ fn lines(rt: HostRuntime) -> Result<(), Fail> {
         &mut [0; 100],
     );
     assert_eq!(rt; (fed.taken, fed.written), (14, 8));
-    written(&rt, rt.alloc(), &listing, b"E 7 4\n")?;
+    written(&rt, rt.alloc(), |out| listing.close(out), b"E 7 4\n")?;
     let mut out = [0; 18];
     assert_eq!(rt; write_closing(4_294_967_295, 255, &mut out)?, 17);
     assert_eq!(rt; out, *b"E 4294967295 255\n\0");
@@ -172,12 +166,17 @@ fn lines(rt: HostRuntime) -> Result<(), Fail> {
     written(
         &rt,
         rt.alloc(),
-        &longest,
+        |out| write_line(&longest, out),
         b"4294967295 R 187354020E0000E90000C9270203E7040903\n",
     )?;
     let shortest = Entry {
         place: 0,
         verdict: Err(Fault::NoPayload),
     };
-    written(&rt, rt.alloc(), &shortest, b"0 F 1 0\n")
+    written(
+        &rt,
+        rt.alloc(),
+        |out| write_line(&shortest, out),
+        b"0 F 1 0\n",
+    )
 }

@@ -1,34 +1,27 @@
 // Set Mode at the limits of its fields. No frame that is received is read so.
-use crate::helps::{Writes, bytes, changed, told};
+use crate::helps::{bytes, changed, told, written};
 use control::mode::ModeKind;
-use control::records::SetMode;
 use frame::framing::{read_frame, write_frame};
 use frame::kind::Kind;
-use frame::packet::Packet;
-use refusal::refusals::Refusal;
 use std::alloc::Global;
 use std::process::Abort;
 use std::test::Fail;
 
-impl Writes for Packet<SetMode> {
-    fn write(&self, out: &mut [u8]) -> Result<usize, Refusal> {
-        write_frame::<ModeKind>(self, out)
+// A record is written back to all of the bytes.
+fn judged(rt: &impl Abort, heap: Global, frame: &[u8]) -> Result<(u8, u8), Fail> {
+    let verdict = read_frame::<ModeKind>(frame);
+    if let Ok(packet) = &verdict {
+        written(rt, heap, |out| write_frame::<ModeKind>(packet, out), frame)?;
     }
+    Ok(told(&verdict))
 }
 
-fn judged(rt: &impl Abort, heap: Global, given: &[u8]) -> Result<(u8, u8), Fail> {
-    told(rt, heap, read_frame::<ModeKind>(given), given)
-}
-
-// What the check says of a whole frame's subtype and data alone: cause and offset, or 0 and 0.
+// What the check says of a whole frame's subtype and data alone.
 fn checked(frame: &[u8]) -> Result<(u8, u8), Fail> {
     let [_, _, sub, _, data @ ..] = frame else {
         return Err(Fail::new("no header"));
     };
-    match ModeKind::check(*sub, data) {
-        Err(fault) => Ok((fault.cause(), fault.offset())),
-        Ok(()) => Ok((0, 0)),
-    }
+    Ok(told(&ModeKind::check(*sub, data)))
 }
 
 static CHANGES: [(usize, &'static str, u8, u8); 33] = [

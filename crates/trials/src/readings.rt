@@ -7,7 +7,7 @@ use std::test::Fail;
 use tape::reader::TapeReader;
 use tape::signals::{Entry, Signal, TapeFull};
 
-// The place, the cause and the offset of an entry. A record has cause and offset 0.
+// The place, the cause and the offset of an entry. A record has cause and offset 0: the rules number causes from 1.
 type Told = (u32, u8, u8);
 
 // What an entry says. The frame of a record has to stand at its place on the tape.

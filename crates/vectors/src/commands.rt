@@ -2,9 +2,11 @@
 use crate::shown::{UNWRITTEN, hex, written};
 use command::commands::Command;
 use command::startup::Startup;
+use refusal::refusals::Refusal;
 use std::alloc::{AllocError, Global};
 
-// Type, subtype and data, the sequence number to send it under, and how many places the buffer has.
+// Type, subtype and data, the sequence number to send it under, and how many places the buffer has: a row of the table is one
+// line so, and seven with the names of a struct's fields.
 static ASKED: [(u8, u8, &'static [u8], u8, usize); 16] = [
     // the worked examples of the protocol: Set Mode, and Media Mount's blinds
     (
@@ -67,9 +69,13 @@ fn made(heap: Global, command: &Command, seq: u8, places: usize) -> Result<Strin
     )
 }
 
-fn asked(heap: Global, row: (u8, u8, &[u8], u8, usize)) -> Result<String, AllocError> {
-    let (kind, sub, data, seq, places) = row;
-    match Command::make(kind, sub, data) {
+fn asked(
+    heap: Global,
+    command: Result<Command, Refusal>,
+    seq: u8,
+    places: usize,
+) -> Result<String, AllocError> {
+    match command {
         Ok(command) => made(heap, &command, seq, places),
         Err(refusal) => {
             let number = refusal.number();
@@ -93,10 +99,9 @@ fn startups(rt: &HostRuntime) -> anyhow::Result<usize> {
 
 // How many were tried.
 pub fn run(rt: &HostRuntime) -> anyhow::Result<usize> {
-    for &row in &ASKED {
-        let (kind, sub, data, _, _) = row;
+    for &(kind, sub, data, seq, places) in &ASKED {
         let tried = hex(rt.alloc(), data)?;
-        let came = asked(rt.alloc(), row)?;
+        let came = asked(rt.alloc(), Command::make(kind, sub, data), seq, places)?;
         println!(rt; "command {kind:02X} {sub:02X} {tried}: {came}")?;
     }
     let startups = startups(rt)?;

@@ -1,5 +1,5 @@
 // What a reader of a tape does with a signal.
-ghost use Rattle.std.specs.Prelude.{◌≡◌, List, [], ◌∷◌, ◌++◌, map, is_some, Some, None, OnErr};
+ghost use Rattle.std.specs.Prelude.{◌≡◌, ◌+◌, ◌≤◌, List, [], ◌∷◌, ◌++◌, map, is_some, Some, None, OnErr};
 ghost use Rattle.tape.specs.declared.signals.Signal.{Signal as Heard};
 ghost use Rattle.tape.specs.declared.signals.Signal.TheVariants.{Byte};
 ghost use Rattle.tape.specs.declared.signals.Entry.{Entry as Told};
@@ -8,7 +8,9 @@ ghost use Rattle.tape.specs.Follow.{Follows, Took, at_once, model};
 use crate::reader::TapeReader;
 use crate::signals::{Entry, Signal, TapeFull};
 use frame::faults::Fault;
+use frame::packet::Packet;
 use record::judging::judge;
+use record::records::Record;
 
 impl TapeReader {
     // The reader of the tape that has no signal.
@@ -37,19 +39,10 @@ impl TapeReader {
                     return Ok(None);
                 }
                 let verdict = judge(&self.begun[..=held as usize]);
-                let place = self.place;
-                self.place = place + held as u32 + 1;
-                self.held = 0;
-                Ok(Some(Entry { place, verdict }))
+                Ok(Some(self.end(held as u32 + 1, verdict)))
             }
             (0, Signal::Pause) => Ok(None),
-            (held, Signal::Pause) => {
-                let place = self.place;
-                self.place = place + held as u32;
-                self.held = 0;
-                let verdict = Err(Fault::Cut(held));
-                Ok(Some(Entry { place, verdict }))
-            }
+            (held, Signal::Pause) => Ok(Some(self.end(held as u32, Err(Fault::Cut(held))))),
         }
     }
 
@@ -69,9 +62,19 @@ impl TapeReader {
         }
         self.signals = self.signals.checked_add(size)?;
         let verdict = judge(frame);
+        Some(self.end(size, verdict))
+    }
+
+    // Ends the frame or the remnant at the reader's place, of so many bytes: gives its entry, and then nothing is begun.
+    fn end(&mut self, size: u32, verdict: Result<Packet<Record>, Fault>) -> Entry
+        requires { self.old.place + size ≤ self.old.signals }
+        ensures entry { result ≡ record { place = self.old.place; verdict = verdict } }
+        ensures ends { model self.new ≡ record { bytes = self.old.begun; held = 0; place = self.old.place + size; signals = self.old.signals } }
+    {
         let place = self.place;
         self.place = place + size;
-        Some(Entry { place, verdict })
+        self.held = 0;
+        Entry { place, verdict }
     }
 
     // How many signals were taken.

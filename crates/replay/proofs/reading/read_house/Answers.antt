@@ -17,5 +17,5 @@ returns c =
     let bytes : Bytes xs = λ i. omega (arith, t i) in
     let rest : take (length xs - 5) (drop 5 xs) ≡ drop 5 xs = take_all _ (drop 5 xs) (omega (arith, length-drop 5 xs)) in
     let l = long_verdict xs bytes c.in-len5-up.len_at_least in
-    let v : housed c.read_by_type.result ≡ house_verdict xs = cc in
+    let v : housed c.read.result ≡ house_verdict xs = cc in
     record { verdict = v; reads_back = reads_back xs _ v; writes_back = writes_back xs _ v }

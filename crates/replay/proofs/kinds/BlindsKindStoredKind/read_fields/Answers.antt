@@ -2,7 +2,6 @@ use Rattle.std.proofs.Common.{arith}
 use Rattle.std.proofs.lemmas.Bool.Decides.{nat_tests}
 use Rattle.frame.specs.Fields.{Bytes}
 use Rattle.record.proofs.Sorts.{blinds_frames}
-use Rattle.replay.proofs.Data.{blinds_passes}
 use Rattle.replay.proofs.ReadBack.{kind_read}
 use Rattle.replay.proofs.kinds.BlindsKindStoredKind.read_fields.Goals as goal
 
@@ -11,7 +10,7 @@ returns c =
     let ys = c.args.fields.now in
     let t = c.type_inv.fields in
     let bytes : Bytes ys = λ i. omega (arith, t i) in
-    kind_read blinds_frames c.args.sub ys bytes (blinds_passes c.args.sub ys bytes (grind (arith, nat_tests)) (grind (arith, nat_tests)) (grind (arith, nat_tests)) (grind (arith, nat_tests))) c.read_data.result (grind (arith, nat_tests))
+    kind_read blinds_frames c.args.sub ys bytes (grind (arith, nat_tests)) c.read_data.result (grind (arith, nat_tests))
 
 pub returns-in_err-tail : goal.returns-in_err-tail
 returns-in_err-tail c = grind (arith, nat_tests)

@@ -9,7 +9,7 @@ returns-then-held-self-clause-took c t es F = took_more t es _ _ _ F (grind (ari
 
 -- the byte ends a frame
 pub returns-else-held-self-clause-took : goal.returns-else-held-self-clause-took
-returns-else-held-self-clause-took c t es F = took_full t es _ _ _ F (grind (arith, nat_tests)) (omega arith) (omega arith) _ _ c.in_default-Byte.is-1 c.if-held-self.false c.judge-verdict.ensures.verdict
+returns-else-held-self-clause-took c t es F = took_full t es _ _ _ F (grind (arith, nat_tests)) (omega arith) (omega arith) _ _ c.in_default-Byte.is-1 c.if-held-self.false c.judge-verdict.ensures.verdict c.end.ensures.entry c.end.ensures.ends
 
 -- a pause where nothing is begun
 pub returns-in-0-Pause-clause-took : goal.returns-in-0-Pause-clause-took
@@ -17,4 +17,4 @@ returns-in-0-Pause-clause-took c t es F = took_quiet t es _ _ _ F (grind (arith,
 
 -- a pause that ends a remnant
 pub returns-in_default-Pause-clause-took : goal.returns-in_default-Pause-clause-took
-returns-in_default-Pause-clause-took c t es F = took_cut t es _ _ _ F (grind (arith, nat_tests)) (omega arith) (omega arith) c.in_default-Pause.is-1 (omega arith)
+returns-in_default-Pause-clause-took c t es F = took_cut t es _ _ _ F (grind (arith, nat_tests)) (omega arith) (omega arith) c.in_default-Pause.is-1 (omega arith) c.end-in_default-Pause.ensures.entry c.end-in_default-Pause.ensures.ends
