@@ -24,6 +24,7 @@ pub struct Security {
     // three bytes in the frame
     pub id: u32,
     pub status: u8,
+    // as in `Blinds`
     pub strength: u8,
     pub battery: u8,
     ghost ok: { security_ok subtype id status strength battery ≡ true },

@@ -30,7 +30,7 @@ impl Command {
         ensures exact { told result ≡ asked kind sub «data».now }
         ensures every { (c : Made) → spelling c ≡ kind ∷ sub ∷ «data».now → result ≡ Ok c }
     {
-        // one arm to a kind: here a type number picks it
+        // one arm to a kind: kinds are types, so only a match leads from a number to one
         match kind {
             ModeKind::TYPE => make_as::<ModeKind>(sub, data),
             BlindsKind::TYPE => make_as::<BlindsKind>(sub, data),

@@ -1,5 +1,5 @@
 // The interface's records, lawful by their type: each ghost field is the range test of `Rattle.control.specs.Ranges`.
-// Subtype, command and frequency are numbers, not enums: each in range is lawful, named or not (docs/DECISIONS.md).
+// Subtype, message, command and frequency are numbers, not enums: each in range is lawful, named or not (docs/DECISIONS.md).
 ghost use Rattle.std.specs.Prelude.{◌≡◌, true};
 ghost use Rattle.control.specs.Ranges.{transmitter_ok, interface_ok, mode_ok};
 

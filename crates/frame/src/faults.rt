@@ -21,6 +21,7 @@ impl Fault {
     pub fn cause(self) -> u8
         ensures { result ≡ cause_of self }
     {
+        // no discriminants, as a refusal has: two of the causes carry a value
         match self {
             Fault::NoPayload => 1,
             Fault::Cut(_) => 2,

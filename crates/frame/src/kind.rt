@@ -21,8 +21,8 @@ pub trait Kind {
 
     ghost model: { Model Self.Record };
 
-    // Whether a subtype and data are a record's, or else the first fault. Not a part of `read`: the two together would be a long
-    // function in most kinds, so each takes the data apart.
+    // Whether a subtype and data are a record's, or else the first fault. A check, a reading and a writing are each kind's own,
+    // since users call the one without the other; so each takes the data apart.
     fn check(sub: u8, data: &[u8]) -> Result<(), Fault>
         ensures { result ≡ checked model sub «data».now };
 

@@ -35,7 +35,7 @@ pub fn write_house(packet: &Packet<Record>, out: &mut [u8]) -> Result<usize, Ref
     ensures { Put (house_of packet.now) out.old result out.new }
 {
     let seq = packet.seq;
-    // each arm names another kind, so a generic function would need this very match to find the kind
+    // one arm to a kind: a generic function would need this very match to find it
     match &packet.record {
         Record::Interface(record) => write_as::<InterfaceKind>(seq, record, out),
         Record::Transmitter(record) => write_as::<TransmitterKind>(seq, record, out),

@@ -12,6 +12,7 @@ pub(crate) fn gather<'a>(numbers: &[u8], frame: &'a mut [u8; 256]) -> Option<&'a
     };
     let size = *len as usize + 1;
     let pairs = pairs.get(..size)?;
+    // one pass over the pairs: `any` before it would be a second one
     let mut highs = 0;
     // tried over `frame.iter_mut().zip(pairs)`: no invariant can name what it leaves in the buffer
     for (i, [high, low]) in pairs.iter().enumerate() {

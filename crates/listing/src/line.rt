@@ -1,4 +1,4 @@
-// The lines of a listing.
+// The lines of a listing. Not by `Display` and `write!`: no clause says that these succeed, and a line cannot fail.
 ghost use Rattle.std.specs.Prelude.{◌≡◌, ◌+◌, ◌≤◌, ◌++◌, length, drop};
 ghost use Rattle.refusal.specs.Output.{Put};
 ghost use Rattle.listing.specs.Lines.{line_of, closing_of};

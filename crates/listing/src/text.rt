@@ -6,7 +6,7 @@ use crate::line::LINE;
 use itoa::write_digits;
 
 // The capital hexadecimal digits of every byte, two and two.
-// tried sixteen digits, with two look-ups for each byte: 304 MB/s against 342 in one run
+// tried sixteen digits, with two look-ups for each byte: 0.90 of the speed of a lister written by hand, where this has 1.02
 const DIGITS: [u8; 512] = *b"\
     000102030405060708090A0B0C0D0E0F101112131415161718191A1B1C1D1E1F\
     202122232425262728292A2B2C2D2E2F303132333435363738393A3B3C3D3E3F\
@@ -18,7 +18,9 @@ const DIGITS: [u8; 512] = *b"\
     E0E1E2E3E4E5E6E7E8E9EAEBECEDEEEFF0F1F2F3F4F5F6F7F8F9FAFBFCFDFEFF";
 
 // A pen writes a line into a buffer that has room for the longest.
-// tried as an array of its own, seen as a list by an impl Model, and copied once it is whole: 225 MB/s against 320
+// tried as an array of its own, seen as a list by an impl Model, and copied once it is whole: 0.70 of the speed of a lister
+// written by hand, where this has 1.02. Each method asks for room of its own: with `len ≤ LINE` as a ghost field the borrow checker
+// lends nothing out of the struct.
 #[derive(Drop)]
 pub(crate) struct Pen<'a> {
     out: &'a mut [u8; LINE],
@@ -70,7 +72,7 @@ impl<'a> Pen<'a> {
         self.len = end;
     }
 
-    // tried without: 309 MB/s against 344 in one run
+    // tried without: a tenth slower
     #[inline(always)]
     pub(crate) fn append_decimal(&mut self, n: u32)
         requires { self.old.len + 10 ≤ LINE }
@@ -91,7 +93,7 @@ impl<'a> Pen<'a> {
         let at = self.len;
         // as in `append`
         let out = &mut *self.out;
-        // tried `self.append(&hex_pair(*b))` for each byte: 319 MB/s against 342 in one run
+        // tried `self.append(&hex_pair(*b))` for each byte: 0.94 of the speed of a lister written by hand, where this has 1.02
         for (i, b) in more.iter().enumerate() {
             let [high, low] = hex_pair(*b);
             out[at + 2 * i] = high;

@@ -40,7 +40,7 @@ fn judge_whole(frame: &[u8]) -> Result<Packet<Record>, Fault>
     if *len < 4 {
         return Err(Fault::NoPayload);
     }
-    // one arm to a kind: here a type number picks it
+    // one arm to a kind: kinds are types, so only a match leads from a number to one
     match *kind {
         InterfaceKind::TYPE => judge_as::<InterfaceKind>(frame),
         TransmitterKind::TYPE => judge_as::<TransmitterKind>(frame),

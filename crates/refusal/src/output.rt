@@ -8,6 +8,7 @@ pub fn put(bytes: &[u8], out: &mut [u8]) -> Result<usize, Refusal>
     ensures { Put bytes.now out.old result out.new }
 {
     let size = bytes.len();
+    // tried `get_mut`: the check then knows nothing of the buffer, and of `split_at_mut_checked` only by an answer
     if out.len() < size {
         return Err(Refusal::OutputTooShort);
     }

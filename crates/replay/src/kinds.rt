@@ -99,7 +99,8 @@ impl StoredKind for SecurityKind {
     }
 }
 
-// Sign and size of a number in two's complement. 8000 stays as it is: it is no temperature in a frame either.
+// Sign and size of a number in two's complement. 8000 stays as it is: it is no temperature in a frame either, and
+// has no place in the way that the sensors write one.
 fn sign_and_size(t: u16) -> u16
     ensures { result ≡ sign_and_size t }
 {

@@ -50,6 +50,7 @@ impl<'a> Stored<'a> {
     fn read(&self) -> Result<Packet<Record>, Refusal>
         ensures { housed result ≡ given (is_map (map_by self.now.kind) self.now.map && lawful_by self.now.kind self.now.sub self.now.fields.now) (headed self.now.map self.now.kind self.now.sub self.now.seq self.now.fields.now) }
     {
+        // one arm to a kind: kinds are types, so only a match leads from a number to one
         match self.kind {
             InterfaceKind::TYPE => self.read_as::<InterfaceKind>(),
             TransmitterKind::TYPE => self.read_as::<TransmitterKind>(),

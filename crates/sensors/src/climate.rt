@@ -13,7 +13,7 @@ use refusal::refusals::Refusal;
 #[derive(Clone, Copy, PartialEq, Eq, Debug)]
 pub struct ClimateKind;
 
-// The number of a sign and a size: no two's complement.
+// The number of a sign and a size: no two's complement. No `From`: two bytes may be another number as well.
 fn from_sign_and_size(hi: u8, lo: u8) -> i16
     ensures { result ≡ signed hi lo }
 {

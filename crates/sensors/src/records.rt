@@ -26,6 +26,7 @@ pub struct Rain {
     pub rate: u16,
     // in tenths of a millimetre
     pub total: u32,
+    // as in `Climate`
     pub strength: u8,
     pub battery: u8,
     ghost ok: { rain_ok subtype id rate total strength battery ≡ true },
@@ -36,6 +37,7 @@ pub struct Meter {
     pub subtype: u8,
     pub id: u16,
     pub counter: u32,
+    // one half of a byte of the frame, whose other half is 0
     pub strength: u8,
     ghost ok: { meter_ok subtype id counter strength ≡ true },
 }

@@ -1,8 +1,8 @@
 // What a stretch is made of.
 
 // A part of a stretch, as a part of its bytes, with the place of its length byte. A place has 64 bits, so that it is right
-// past the end of 32 bits too. The three have the same two fields: users match on what a token is, and each has its place and
-// its bytes.
+// past the end of 32 bits too. The three have the same two fields, and are no struct with a sort: users match on
+// them, and so do the clauses.
 #[derive(Clone, Copy, PartialEq, Eq, Debug)]
 pub enum Token<'a> {
     // a whole frame that has a payload

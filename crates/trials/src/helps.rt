@@ -83,6 +83,7 @@ fn written_in<W: Fn(&mut [u8]) -> Result<usize, Refusal>>(
             );
             Ok(())
         }
+        // by its number, here and in the other trials: so the numbers of docs/REFUSALS.md are tried too
         Err(refusal) => {
             assert_eq!(rt; refusal.number(), 16, "{text:?}, a buffer of {room}");
             assert!(rt; room < text.len(), "{text:?}, a buffer of {room}");
@@ -108,7 +109,7 @@ pub fn written<W: Fn(&mut [u8]) -> Result<usize, Refusal>>(
     Ok(())
 }
 
-// The cause and offset of a fault. A row says 0 0 where there is no fault: the rules number causes from 1.
+// The cause and offset of a fault. A row says 0 0 where there is none, which no fault has: so a row is one line.
 pub fn told<T>(verdict: &Result<T, Fault>) -> (u8, u8) {
     match verdict {
         Ok(_) => (0, 0),

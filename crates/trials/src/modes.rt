@@ -8,6 +8,7 @@ use std::process::Abort;
 use std::test::Fail;
 
 // A record is written back to all of the bytes.
+// As in frames.rt, but for the kind that reads and writes.
 fn judged(rt: &impl Abort, heap: Global, frame: &[u8]) -> Result<(u8, u8), Fail> {
     let verdict = read_frame::<ModeKind>(frame);
     if let Ok(packet) = &verdict {

@@ -121,9 +121,10 @@ impl Listing {
         ensures went { (input : List ℕ) (es : List Entry) → Listens input es self.old → WentOn input piece.now es out.old result }
         ensures stops { Stops piece.now out.old result }
     {
-        // tried in `leap`, where it is used: 235 MB/s against 325, since each step then clears it
+        // tried in `leap`, where it is used: 0.72 of the speed, since each step then clears it
         let mut scratch = [0; 256];
         let mut rest = piece;
+        // counted, since it is told, and no rest of the buffer is left to tell it by
         let mut written = 0;
         while !rest.is_empty() {
             let Some(fed) = self.feed_once(rest, &mut scratch, &mut out[written..]) else {
