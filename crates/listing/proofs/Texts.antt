@@ -1,7 +1,7 @@
 -- Text that grows in a buffer.
-use Rattle.std.proofs.Common.{◌≡◌, ℕ, ◌+◌, ◌-◌, ◌/◌, ◌%◌, ◌<◌, ◌≤◌, List, [], ◌∷◌, ◌++◌, length, get_or, take, drop, set, sym, refl, ap, ◌∙◌, subst, append_assoc, arith, length-append, length-set, take-append-drop, length-take-le, drop-drop, take-add}
+use Rattle.std.proofs.Common.{◌≡◌, ℕ, ◌+◌, ◌*◌, ◌-◌, ◌/◌, ◌%◌, ◌<◌, ◌≤◌, List, [], ◌∷◌, ◌++◌, length, get_or, take, drop, sym, refl, ap, ◌∙◌, subst, append_assoc, arith, length-append, take-append-drop, length-take-le, drop-drop, take-add}
 use borrow.Rule.Slice.PartMut.{put_mid}
-use Rattle.std.proofs.lemmas.List.{take_more, take_more_set, drop-set-lt, take_at, drop_at, drop-append-le}
+use Rattle.std.proofs.lemmas.List.{take_more, take_at, drop_at, drop-append-le}
 use Rattle.std.proofs.lemmas.Slice.{take-put_mid, drop-put_mid}
 use Rattle.listing.specs.Text.{hex, hex_digit, Grown}
 
@@ -39,29 +39,13 @@ hex_append : (xs ys : List ℕ) → hex (xs ++ ys) ≡ hex xs ++ hex ys
 hex_append [] ys = refl
 hex_append (x ∷ xs) ys = ap (λ l. hex_digit (x / 16) ∷ hex_digit (x % 16) ∷ l) (hex_append xs ys)
 
--- two more bytes
-grown_two : (out mid : List ℕ) (at e : ℕ) (xs : List ℕ) (h l : ℕ) → e + 2 ≤ length mid → Grown out at xs mid e → Grown out at (xs ++ (h ∷ l ∷ [])) (set (set mid e h) (e + 1) l) (e + 2)
-grown_two out mid at e xs h l fits G =
-    let one = set mid e h in
-    let two : take (e + 2) (set one (e + 1) l) ≡ (take e mid ++ h ∷ []) ++ l ∷ [] =
-    ap (λ n. take n (set one (e + 1) l)) (succ e) ∙ take_more_set one (e + 1) l (omega (arith, length-set mid e h)) ∙ ap (λ t. t ++ l ∷ []) (take_more_set mid e h (omega arith)) in
-    record {
-      ends = omega (arith, G.ends, length-append xs (h ∷ l ∷ []));
-      text = two ∙ append_assoc (take e mid) (h ∷ []) (l ∷ []) ∙ ap (λ t. t ++ (h ∷ l ∷ [])) G.text ∙ append_assoc (take at out) xs (h ∷ l ∷ []);
-      rest = drop-set-lt (e + 2) one (e + 1) l (omega arith) ∙ drop-set-lt (e + 2) mid e h (omega arith) ∙ later e (e + 2) mid out (omega arith) G.rest;
-    }
-  where
-    succ : (e : ℕ) → e + 2 ≡ e + 1 + 1
-    succ e = omega arith
+pub hex_long : (xs : List ℕ) → length (hex xs) ≡ 2 * length xs
+hex_long [] = refl
+hex_long (x ∷ xs) = omega (arith, hex_long xs)
 
 -- one byte more in hexadecimal
-pub grown_hex : (out mid : List ℕ) (at e f i : ℕ) (more : List ℕ) (h l : ℕ) → f ≡ e + 2 → f ≤ length mid → i < length more → h ≡ hex_digit (get_or more i 0 / 16) → l ≡ hex_digit (get_or more i 0 % 16) → Grown out at (hex (take i more)) mid e → Grown out at (hex (take (i + 1) more)) (set (set mid e h) (e + 1) l) f
-grown_hex out mid at e f i more h l next fits lt eh el G =
-    let b = get_or more i 0 in
-    let text : hex (take i more) ++ (h ∷ l ∷ []) ≡ hex (take (i + 1) more) =
-    ap (λ t. hex (take i more) ++ t) (λ j. eh j ∷ el j ∷ []) ∙ sym (hex_append (take i more) (b ∷ [])) ∙ ap hex (sym (take_more more i 0 lt)) in
-    let after = set (set mid e h) (e + 1) l in
-    subst (λ n. Grown out at (hex (take (i + 1) more)) after n) (sym next) (grown_same out after at (e + 2) _ _ text (grown_two out mid at e (hex (take i more)) h l (omega arith) G))
+pub hex_more : (i : ℕ) (more : List ℕ) → i < length more → hex (take i more) ++ hex (get_or more i 0 ∷ []) ≡ hex (take (i + 1) more)
+hex_more i more lt = sym (hex_append (take i more) (get_or more i 0 ∷ [])) ∙ ap hex (sym (take_more more i 0 lt))
 
 -- digits that were written down to a place
 pub grown_digits : (out after digits : List ℕ) (at start end : ℕ) → start + length digits ≡ end → end ≡ at + length digits → drop start after ≡ digits ++ drop end out → take start after ≡ take start out → Grown out at digits after end
