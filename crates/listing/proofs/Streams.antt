@@ -194,6 +194,92 @@ pair_advances x piece s r z two none s-is step =
           signals_append input (take i (take 2 piece)) (e ∙ none) ∙ ap (λ ss. signals input ++ ss) (signals_take i (take 2 piece) ∙ ap (λ k. take k (signals (take 2 piece))) half) ∙ append-nil (signals input));
     }
 
+-- the first i bytes of a piece complete no entry
+pub record Passes (x : Listing) (piece : List ℕ) (i : ℕ) (y : Listing) : Type 0 where
+  pub within : i ≤ length piece
+  pub hears : Hears x (take i piece) [] y
+  pub waits : Waits x (take i piece)
+
+pub passes_none : (x : Listing) (piece : List ℕ) (i : ℕ) → i ≡ 0 → Passes x piece i x
+passes_none x piece i e = subst (λ k. Passes x piece k x) (sym e) (record {
+  within = omega arith;
+  hears = λ input es L. subst (λ l. Listens l (es ++ []) x) (sym (append-nil input)) (subst (λ l. Listens input l x) (sym (append-nil es)) L);
+  waits = λ input es L j lt. absurd (omega arith);
+})
+
+-- a step behind them
+module _ (x : Listing) (piece : List ℕ) (i : ℕ) (y : Listing) (P : Passes x piece i y) (rest : List ℕ) (rest_is : rest ≡ drop i piece) (z : Listing) (told : Advance) (A : Advances y rest z told) where
+  both : (k : ℕ) → k ≤ told.taken → (input : List ℕ) → (input ++ take i piece) ++ take k (take told.taken rest) ≡ input ++ take (i + k) (take (i + told.taken) piece)
+  both k h input =
+      append_assoc input (take i piece) _
+      ∙ ap (λ l. input ++ l) (ap (λ l. take i piece ++ l) (take-take k told.taken _ h ∙ ap (take k) rest_is) ∙ sym (take-add i k piece) ∙ sym (take-take (i + k) (i + told.taken) _ (omega (arith, h))))
+
+  here : (input : List ℕ) (es : List Entry) → Listens input es x → Listens (input ++ take i piece) es y
+  here input es L = subst (λ l. Listens (input ++ take i piece) l y) (append-nil es) (P.hears input es L)
+
+  pub passes_on : Advances x piece z (record { taken = i + told.taken; entry = told.entry })
+  passes_on =
+      let size : length rest ≡ length piece - i = ap length rest_is ∙ length-drop i piece in
+      record {
+        within = omega (arith, size, P.within, A.within);
+        moves = omega (arith, A.moves);
+        hears = λ input es L.
+            let whole : (input ++ take i piece) ++ take told.taken rest ≡ input ++ take (i + told.taken) piece =
+            ap (λ l. (input ++ take i piece) ++ l) (sym (take-take told.taken told.taken _ (omega arith))) ∙ both told.taken (omega arith) input ∙ ap (λ l. input ++ l) (take-take (i + told.taken) (i + told.taken) _ (omega arith)) in
+            subst (λ l. Listens l (es ++ option_to_list told.entry) z) whole (A.hears (input ++ take i piece) es (here input es L));
+        waits = λ input es L j lt fs q r R.
+            let few : j < i + told.taken = omega (arith, lt, length-take-le (i + told.taken) piece (omega (arith, size, P.within, A.within))) in
+            elim (dec_lt j i) [
+              | yes h ↦ P.waits input es L j (omega (arith, h, length-take-le i piece P.within)) fs q r (subst (λ l. Reads 0 (tape_of (input ++ l)) (es ++ fs) q r) (take-take j (i + told.taken) _ (omega (arith, few)) ∙ sym (take-take j i _ (omega (arith, h)))) R)
+              | no h ↦
+                  let e : j ≡ i + (j - i) = omega arith in
+                  let k : j - i < told.taken = omega (arith, few) in
+                  A.waits (input ++ take i piece) es (here input es L) (j - i) (omega (arith, k, length-take-le told.taken rest A.within)) fs q r
+                  (subst (λ l. Reads 0 (tape_of l) (es ++ fs) q r) (ap (λ m. input ++ take m (take (i + told.taken) piece)) e ∙ sym (both (j - i) (omega (arith, k)) input)) R)
+            ];
+      }
+
+-- what is left of a piece, of which the rest completes no entry
+pub record Passing (x : Listing) (piece rest : List ℕ) (y : Listing) : Type 0 where
+  pub within : length rest ≤ length piece
+  pub rest_is : rest ≡ drop (length piece - length rest) piece
+  pub no_half : y.high ≡ None
+  pub passes : Passes x piece (length piece - length rest) y
+
+pub passing_none : (x : Listing) (piece : List ℕ) → x.high ≡ None → Passing x piece piece x
+passing_none x piece free =
+    let none : length piece - length piece ≡ 0 = omega arith in
+    record {
+      within = omega arith;
+      rest_is = ap (λ k. drop k piece) (sym none);
+      no_half = free;
+      passes = passes_none x piece _ none;
+    }
+
+-- one signal number more
+module _ (x : Listing) (piece rest : List ℕ) (y : Listing) (W : Passing x piece rest y) (two : 2 ≤ length rest) (s : Signal) (s-is : s ≡ signal_of (get_or rest 0 0 * 256 + get_or rest 1 0)) (r : Option Entry) (z : Listing) (same : z.high ≡ y.high) (step : (t : List Signal) (es : List Entry) → Follows t es (model y.reader) → Stepped t es s r y z) where
+  abbrev left : List ℕ
+  left = take (length rest - 2) (drop 2 rest)
+
+  left_is : left ≡ drop 2 rest
+  left_is = take_all (length rest - 2) (drop 2 rest) (omega (arith, length-drop 2 rest))
+
+  next : length piece - length left ≡ (length piece - length rest) + 2
+  next = omega (arith, ap length left_is, length-drop 2 rest, W.within, two)
+
+  pub passes_step : Advances x piece z (record { taken = length piece - length left; entry = r })
+  passes_step = subst (λ k. Advances x piece z (record { taken = k; entry = r })) (sym next) (passes_on x piece _ y W.passes rest W.rest_is z (record { taken = 2; entry = r }) (pair_advances y rest s r z two W.no_half s-is step))
+
+  pub passing_more : r ≡ None → Passing x piece left z
+  passing_more none =
+      let A = passes_step in
+      record {
+        within = omega (arith, ap length left_is, length-drop 2 rest, W.within);
+        rest_is = left_is ∙ ap (drop 2) W.rest_is ∙ drop-drop 2 _ piece ∙ ap (λ k. drop k piece) (sym next);
+        no_half = same ∙ W.no_half;
+        passes = record { within = A.within; hears = subst (λ o. Hears x (take (length piece - length left) piece) (option_to_list o) z) none A.hears; waits = A.waits };
+      }
+
 pub lines_append : (es fs : List Entry) → lines (es ++ fs) ≡ lines es ++ lines fs
 lines_append [] fs = refl
 lines_append (e ∷ es) fs = ap (λ l. line_of e ++ l) (lines_append es fs) ∙ sym (append_assoc (line_of e) (lines es) (lines fs))

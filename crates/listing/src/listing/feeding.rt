@@ -18,6 +18,8 @@ use tape::reader::TapeReader;
 use tape::signals::{Entry, Signal, TapeFull};
 
 // Writes the line of the entry, if there is one, to the front of the buffer.
+// tried without `inline`: an entry that is not there is then put into memory for each call
+#[inline(always)]
 fn write_entry(entry: Option<Entry>, room: &mut [u8; LINE]) -> usize
     ensures counts { result ≡ length (lines (option_to_list entry)) }
     ensures holds { room.new ≡ lines (option_to_list entry) ++ drop result room.old }
@@ -43,7 +45,8 @@ impl Listing {
 
     // One signal more: the entry that it completes, if any.
     fn step(&mut self, signal: Signal) -> Option<Entry>
-        ensures { (t : List Heard) (es : List Entry) → Follows t es (model self.old.reader) → Stepped t es signal result self.old self.new }
+        ensures waits { self.new.high ≡ self.old.high }
+        ensures stepped { (t : List Heard) (es : List Entry) → Follows t es (model self.old.reader) → Stepped t es signal result self.old self.new }
     {
         match self.reader.take(signal) {
             Ok(entry) => entry,
@@ -82,36 +85,59 @@ impl Listing {
         })
     }
 
-    // Takes a whole frame, or else one signal number, or else one byte.
-    fn advance(&mut self, piece: &[u8], scratch: &mut [u8; 256]) -> Advance
-        requires { 0 < length piece.now }
+    // Takes signal numbers one by one, up to the first that completes an entry, or to a place where another frame may begin. A loop of
+    // its own, so that what completes nothing, as the pauses of a quiet line, costs little.
+    fn pass(&mut self, piece: &[u8]) -> Advance
+        requires waits { self.old.high ≡ None }
+        requires some { 2 ≤ length piece.now }
         ensures { Advances self.old piece.now self.new result }
     {
-        if let Some(leap) = self.leap(piece, scratch) {
-            return leap;
+        let mut rest = piece;
+        while let [high, low, after @ ..] = rest {
+            let entry = self.step(Signal::from(u16::from_be_bytes([*high, *low])));
+            rest = after;
+            if entry.is_some() || (self.reader.begun() == 0 && matches!(rest, [0, ..])) {
+                let taken = piece.len() - rest.len();
+                return Advance { taken, entry };
+            }
+        }
+        let taken = piece.len() - rest.len();
+        Advance { taken, entry: None }
+    }
+
+    // Takes a whole frame, or else signal numbers, or else one byte, and writes the line of the entry that they complete, if any.
+    // tried to write it once, behind all three: an entry that is not there is then carried so far, at two to five times the time for
+    // short pieces
+    fn advance(&mut self, piece: &[u8], scratch: &mut [u8; 256], room: &mut [u8; LINE]) -> Fed
+        requires { 0 < length piece.now }
+        ensures { FedOnce self.old piece.now room.old self.new room.new result }
+    {
+        if let Some(Advance { taken, entry }) = self.leap(piece, scratch) {
+            let written = write_entry(entry, room);
+            return Fed { taken, written };
         }
         match (self.high, piece) {
-            (None, [high, low, ..]) => Advance {
-                taken: 2,
-                entry: self.step(Signal::from(u16::from_be_bytes([*high, *low]))),
-            },
-            _ => Advance {
-                taken: 1,
-                entry: self.hear(piece[0]),
-            },
+            (None, [_, _, ..]) => {
+                let Advance { taken, entry } = self.pass(piece);
+                let written = write_entry(entry, room);
+                Fed { taken, written }
+            }
+            _ => {
+                let entry = self.hear(piece[0]);
+                let written = write_entry(entry, room);
+                Fed { taken: 1, written }
+            }
         }
     }
 
-    // Advances and writes the line of the entry, if the buffer has room for a longest line. Else it does nothing.
+    // Advances, if the buffer has room for a longest line. Else it does nothing.
     fn feed_once(&mut self, piece: &[u8], scratch: &mut [u8; 256], out: &mut [u8]) -> Option<Fed>
         requires { 0 < length piece.now }
         ensures some { IfSome result (FedOnce self.old piece.now out.old self.new out.new) }
         ensures none { result ≡ None → (length out.old < LINE) × (self.new ≡ self.old) × (out.new ≡ out.old) }
     {
         let room = out.first_chunk_mut::<LINE>()?;
-        let Advance { taken, entry } = self.advance(piece, scratch);
-        let written = write_entry(entry, room);
-        Some(Fed { taken, written })
+        Some(self.advance(piece, scratch, room))
     }
 
     // Goes on with the listing: takes bytes from the front of the piece, and writes the lines that they complete to the front of

@@ -7,15 +7,14 @@ use Rattle.listing.proofs.listing.Listing.feed_once.Goals as goal
 pub returns-clause-some : goal.returns-clause-some
 returns-clause-some c =
     let out = c.args.out.now in
-    let entry = c.advance-taken.result.entry in
-    let line = c.write_entry-written.ensures in
-    let text = lines (option_to_list entry) in
+    let once = c.advance.ensures in
+    let text = lines (option_to_list once.entry) in
     let room : 50 ≤ length out = search rules in
     record {
       room = room;
-      entry = entry;
-      advances = c.advance-taken.ensures;
-      counts = line.counts;
-      holds = ap (λ l. l ++ drop 50 out) line.holds ∙ append_assoc text _ _ ∙ ap (λ l. text ++ l) (front_rest c.write_entry-written.result 50 out _ room c.in_ok-room.ensures.cases.same line.few);
-      few = line.few;
+      entry = once.entry;
+      advances = once.advances;
+      counts = once.counts;
+      holds = ap (λ l. l ++ drop 50 out) once.holds ∙ append_assoc text _ _ ∙ ap (λ l. text ++ l) (front_rest c.advance.result.written 50 out _ room c.in_ok-room.ensures.cases.same once.few);
+      few = once.few;
     }

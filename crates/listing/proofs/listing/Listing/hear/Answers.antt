@@ -11,4 +11,4 @@ returns c =
     let x = c.args.self.now in
     let b = c.args.byte in
     let number : c.from_be_bytes.result ≡ c.in-Some.high * 256 + b = search rules in
-    hears_number x _ (b ∷ []) _ _ (subst (Ends x (b ∷ [])) (sym (c.from.ensures ∙ ap signal_of number)) (ends_second x c.in-Some.high b c.in-Some.is)) c.step.ensures
+    hears_number x _ (b ∷ []) _ _ (subst (Ends x (b ∷ [])) (sym (c.from.ensures ∙ ap signal_of number)) (ends_second x c.in-Some.high b c.in-Some.is)) c.step.ensures.stepped

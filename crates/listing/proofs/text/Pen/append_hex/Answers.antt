@@ -1,4 +1,4 @@
-use Rattle.std.proofs.Common.{arith, length-take, take}
+use Rattle.std.proofs.Common.{[], ◌∷◌, get_or, ap, arith, length-take, take}
 use Rattle.listing.proofs.Texts.{hex_long, hex_more}
 use Rattle.listing.proofs.Pens.{writes_more, writes_same}
 use Rattle.listing.proofs.text.Pen.append_hex.Goals as goal
@@ -12,7 +12,7 @@ append-requires c =
 pub loop-b-preserved : goal.loop-b-preserved
 loop-b-preserved c =
     let l = c.loop-b in
-    writes_same (hex_more l.b-index c.args.more.now c.loop-b-test.true) (writes_more l.invariant (writes_same c.hex_pair.ensures c.append.ensures))
+    writes_same (hex_more l.b-index c.args.more.now c.loop-b-test.true) (writes_more l.invariant (writes_same (ap (λ l. get_or l 0 0 ∷ get_or l 1 0 ∷ []) c.hex_pair.ensures) c.append.ensures))
 
 pub returns-clause-few : goal.returns-clause-few
 returns-clause-few c =
