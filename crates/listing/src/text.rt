@@ -92,8 +92,8 @@ fn spell_pairs(out: &mut [u8], place: usize, n: u32) -> Left
 }
 
 // Writes the digits of a number from a place on, and tells the place behind them.
-// tried `itoa::write_digits` and `ilog10`: the wrong digits and counts of the must-fail edits need a branch or a store behind such
-// a call, and with that the check refuses the right ones as well
+// tried `itoa::write_digits` and `ilog10`: wrong digits and counts can then be planted only by a branch or a store behind the call,
+// with which the check refuses right ones as well
 fn spell_decimal(out: &mut [u8], at: usize, n: u32) -> usize
     requires { at + 10 ≤ length out.old }
     ensures text { Grown out.old at (decimal n) out.new result }

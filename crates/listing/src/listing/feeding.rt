@@ -85,8 +85,8 @@ impl Listing {
         })
     }
 
-    // Takes signal numbers one by one, up to the first that completes an entry, or to a place where another frame may begin. A loop of
-    // its own, so that what completes nothing, as the pauses of a quiet line, costs little.
+    // Takes signal numbers one by one, up to the first that completes an entry, or to where another frame may begin. A loop of its
+    // own, so that what completes nothing, as the pauses of a quiet line, costs little.
     fn pass(&mut self, piece: &[u8]) -> Advance
         requires waits { self.old.high ≡ None }
         requires some { 2 ≤ length piece.now }
@@ -106,8 +106,8 @@ impl Listing {
     }
 
     // Takes a whole frame, or else signal numbers, or else one byte, and writes the line of the entry that they complete, if any.
-    // tried to write it once, behind all three: an entry that is not there is then carried so far, at two to five times the time for
-    // short pieces
+    // tried to write it once, behind all three: an entry that is not there is then carried that far, and short pieces take two to
+    // four times as long
     fn advance(&mut self, piece: &[u8], scratch: &mut [u8; 256], room: &mut [u8; LINE]) -> Fed
         requires { 0 < length piece.now }
         ensures { FedOnce self.old piece.now room.old self.new room.new result }
