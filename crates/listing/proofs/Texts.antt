@@ -1,7 +1,7 @@
 -- Text that grows in a buffer.
-use Rattle.std.proofs.Common.{◌≡◌, ℕ, ◌+◌, ◌*◌, ◌-◌, ◌/◌, ◌%◌, ◌<◌, ◌≤◌, List, [], ◌∷◌, ◌++◌, length, get_or, take, drop, sym, refl, ap, ◌∙◌, subst, append_assoc, arith, length-append, take-append-drop, length-take-le, drop-drop, take-add}
+use Rattle.std.proofs.Common.{◌≡◌, ℕ, ◌+◌, ◌*◌, ◌-◌, ◌/◌, ◌%◌, ◌<◌, ◌≤◌, List, [], ◌∷◌, ◌++◌, length, get_or, take, drop, sym, refl, ap, ◌∙◌, subst, append_assoc, arith, length-append, take-append-drop, length-take-le, drop-drop}
 use borrow.Rule.Slice.PartMut.{put_mid}
-use Rattle.std.proofs.lemmas.List.{take_more, take_at, drop_at, drop-append-le}
+use Rattle.std.proofs.lemmas.List.{take_more, drop-append-le}
 use Rattle.std.proofs.lemmas.Slice.{take-put_mid, drop-put_mid}
 use Rattle.listing.specs.Text.{hex, hex_digit, Grown}
 
@@ -46,18 +46,6 @@ hex_long (x ∷ xs) = omega (arith, hex_long xs)
 -- one byte more in hexadecimal
 pub hex_more : (i : ℕ) (more : List ℕ) → i < length more → hex (take i more) ++ hex (get_or more i 0 ∷ []) ≡ hex (take (i + 1) more)
 hex_more i more lt = sym (hex_append (take i more) (get_or more i 0 ∷ [])) ∙ ap hex (sym (take_more more i 0 lt))
-
--- digits that were written down to a place
-pub grown_digits : (out after digits : List ℕ) (at start end : ℕ) → start + length digits ≡ end → end ≡ at + length digits → drop start after ≡ digits ++ drop end out → take start after ≡ take start out → Grown out at digits after end
-grown_digits out after digits at start end starts ends written before =
-    let here : start ≡ at = omega (arith, starts, ends) in
-    let size = length digits in record {
-      ends = ends;
-      text =
-          ap (λ k. take k after) (sym starts) ∙ take-add start size after
-          ∙ (λ i. (before ∙ ap (λ k. take k out) here) i ++ (ap (take size) written ∙ take_at digits (drop end out) size refl) i);
-      rest = ap (λ k. drop k after) (sym starts) ∙ sym (drop-drop size start after) ∙ ap (drop size) written ∙ drop_at digits (drop end out) size refl;
-    }
 
 -- what lies behind a place of the first bytes of a buffer
 pub front_rest : (n k : ℕ) (out front : List ℕ) → k ≤ length out → front ≡ take k out → n ≤ k → drop n front ++ drop k out ≡ drop n out

@@ -161,6 +161,7 @@ impl<'a> Pen<'a> {
         ensures few { self.new.len ≤ self.old.len + 2 * length more.now }
     {
         for b in more {
+            // by name, so that an edit can turn one of the two
             let [high, low] = hex_pair(*b);
             self.append(&[high, low]);
         }

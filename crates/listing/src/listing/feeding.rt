@@ -45,7 +45,7 @@ impl Listing {
 
     // One signal more: the entry that it completes, if any.
     fn step(&mut self, signal: Signal) -> Option<Entry>
-        ensures waits { self.new.high ≡ self.old.high }
+        ensures same_half { self.new.high ≡ self.old.high }
         ensures stepped { (t : List Heard) (es : List Entry) → Follows t es (model self.old.reader) → Stepped t es signal result self.old self.new }
     {
         match self.reader.take(signal) {
@@ -85,10 +85,10 @@ impl Listing {
         })
     }
 
-    // Takes signal numbers one by one, up to the first that completes an entry, or to where another frame may begin. A loop of its
-    // own, so that what completes nothing, as the pauses of a quiet line, costs little.
+    // Takes signal numbers one by one, up to the first that completes an entry, to where another frame may begin, or to an odd last
+    // byte. A loop of its own, so that what completes nothing, as the pauses of a quiet line, costs little.
     fn pass(&mut self, piece: &[u8]) -> Advance
-        requires waits { self.old.high ≡ None }
+        requires no_half { self.old.high ≡ None }
         requires some { 2 ≤ length piece.now }
         ensures { Advances self.old piece.now self.new result }
     {
@@ -137,7 +137,8 @@ impl Listing {
         ensures none { result ≡ None → (length out.old < LINE) × (self.new ≡ self.old) × (out.new ≡ out.old) }
     {
         let room = out.first_chunk_mut::<LINE>()?;
-        Some(self.advance(piece, scratch, room))
+        let Fed { taken, written } = self.advance(piece, scratch, room);
+        Some(Fed { taken, written })
     }
 
     // Goes on with the listing: takes bytes from the front of the piece, and writes the lines that they complete to the front of

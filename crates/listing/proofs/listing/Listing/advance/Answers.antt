@@ -1,4 +1,4 @@
-use Rattle.std.proofs.Common.{◌≡◌, ◌≤◌, length, refl, subst, rules}
+use Rattle.std.proofs.Common.{◌≤◌, length, refl, subst, rules}
 use Rattle.listing.specs.Steps.{Advances}
 use Rattle.listing.proofs.Streams.{byte_advances}
 use Rattle.listing.proofs.listing.Listing.advance.Goals as goal
