@@ -92,8 +92,8 @@ fn spell_pairs(out: &mut [u8], place: usize, n: u32) -> Left
 }
 
 // Writes the digits of a number from a place on, and tells the place behind them.
-// tried `itoa::write_digits` and `ilog10`: wrong digits and counts can then be planted only by a branch or a store behind the call,
-// with which the check refuses right ones as well
+// tried `itoa::write_digits` and `ilog10`: a must-fail edit can then plant a wrong digit or count only by a branch or a store
+// behind the call, with which the check refuses right ones as well
 fn spell_decimal(out: &mut [u8], at: usize, n: u32) -> usize
     requires { at + 10 ≤ length out.old }
     ensures text { Grown out.old at (decimal n) out.new result }
@@ -161,7 +161,7 @@ impl<'a> Pen<'a> {
         ensures few { self.new.len ≤ self.old.len + 2 * length more.now }
     {
         for b in more {
-            // by name, so that an edit can turn one of the two
+            // by name, so that a must-fail edit can turn one of the two
             let [high, low] = hex_pair(*b);
             self.append(&[high, low]);
         }

@@ -106,7 +106,7 @@ impl Listing {
     }
 
     // Takes a whole frame, or else signal numbers, or else one byte, and writes the line of the entry that they complete, if any.
-    // tried to write it once, behind all three: an entry that is not there is then carried that far, and short pieces take two to
+    // tried to write it once, behind all three: an entry that is not there is then carried that far, and short pieces take three to
     // four times as long
     fn advance(&mut self, piece: &[u8], scratch: &mut [u8; 256], room: &mut [u8; LINE]) -> Fed
         requires { 0 < length piece.now }
@@ -137,6 +137,7 @@ impl Listing {
         ensures none { result ≡ None → (length out.old < LINE) × (self.new ≡ self.old) × (out.new ≡ out.old) }
     {
         let room = out.first_chunk_mut::<LINE>()?;
+        // by name, so that a must-fail edit can turn one of the two
         let Fed { taken, written } = self.advance(piece, scratch, room);
         Some(Fed { taken, written })
     }
